@@ -25,7 +25,7 @@ use Rattle.store.proofs.Effects.{holds_inserted, deleted, holds_raised, holds_lo
 abbrev pub taken : Error
 taken = SqliteFailure (ConstraintViolation Unique)
 
-no_fault : (cause : StoreError) → taken ≢ store_error cause
+pub no_fault : (cause : StoreError) → taken ≢ store_error cause
 no_fault OutOfMemory e = absurd (cc)
 no_fault Io e = absurd (cc)
 no_fault Corrupt e = absurd (cc)

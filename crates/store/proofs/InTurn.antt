@@ -1,5 +1,5 @@
 -- A table that is read after others: what its call says of the state before it is so of the first state.
-use Rattle.std.proofs.Common.{◌≡◌, ℕ, List, Ok, Err, Result, refl, sym, ap, subst, ◌∙◌}
+use Rattle.std.proofs.Common.{◌≡◌, false, ℕ, List, Ok, Err, Result, refl, sym, ap, subst, ◌∙◌}
 use Rattle.sqlite_value.specs.Order.{Row}
 use Rattle.sqlite.specs.Effect.{Database}
 use Rattle.sqlite.specs.State.{State, HasCleanDisk, IsUnchanged, Survives}
@@ -17,9 +17,10 @@ pub record Leads (laid : Type 0) (a b : State) : Type 1 where
   pub rested : HasCleanDisk b → laid → (c : State) → Rested b c → Rested a c
   pub crash : laid → (c : State) → Survives b c (λ _. ⊥) → Survives a c (λ _. ⊥)
   pub lives : (c : State) → Survives b c (λ _. Unit {0}) → Survives a c (λ _. Unit {0})
+  pub autocommit : a.in_transaction ≡ false → b.in_transaction ≡ false
 
 pub at_start : (laid : Type 0) (a : State) → Leads laid a a
-at_start laid a = record { now = λ clean l. refl; same = λ clean l c same. same; rested = λ clean l c rested. rested; crash = λ l c survives. survives; lives = λ c lives. lives }
+at_start laid a = record { now = λ clean l. refl; same = λ clean l c same. same; rested = λ clean l c rested. rested; crash = λ l c survives. survives; lives = λ c lives. lives; autocommit = λ out. out }
 
 -- One more table is read, all of which the text asks for.
 module _ {laid : Type 0} {a b c : State} {text : List ℕ} {tree : ℕ} {X : Type 0} {r : Result X StoreFault} {Lawful : List Row → X → Type 0} {rules : List Row → Type 0}
@@ -62,6 +63,7 @@ module _ {laid : Type 0} {a b c : State} {text : List ℕ} {tree : ℕ} {X : Typ
     rested = λ clean l d rested. so.rested (early so asks reads clean) l d (rested_after b c d (stays clean l) rested);
     crash = λ l d after. so.crash l d (survives_then b c d (λ _. ⊥) (λ _. ⊥) (λ _. ⊥) (λ _ db none. absurd none) (λ _ db none. none) (commits_nothing so asks reads l) after);
     lives = λ d after. so.lives d (any_then b c d _ (over_any b c _ reads.crash) after);
+    autocommit = λ out. reads.autocommit (so.autocommit out);
   }
 
   -- it was the last one
@@ -74,6 +76,8 @@ module _ {laid : Type 0} {a b c : State} {text : List ℕ} {tree : ℕ} {X : Typ
         rested = rested_on so asks reads;
         lives = lives_on so asks reads;
         crash = crash_on so asks reads;
+        fault = tt;
+        autocommit = λ out. reads.autocommit (so.autocommit out);
       }
 
 -- It failed, or its rows break the rules, which are among those of all tables.
@@ -81,9 +85,11 @@ module _ {laid : Type 0} {a b c : State} {text : List ℕ} {tree : ℕ} {X : Typ
     (so : Leads laid a b) (asks : laid → AsksAll a.now.schema text tree) (reads : ReadsAll {X = X} text b c (Err fault) Lawful rules) where
   pub not_read : {Y says : Type 0} {Good : Y → Type 0} {all : Type 0} (r : Result Y StoreFault) → (e : StoreFault) × (r ≡ Err e) × (e ≡ fault) → (all → rules (a.now.trees tree)) → LoadsAll laid says a c r Good all
   not_read {says = says} {Good = Good} {all = all} r is back = subst (λ x. LoadsAll laid says a c x Good all) (sym (is.1 ∙ ap Err is.2)) (record {
-    loads = λ clean l settled said. fault_by fault back (judged_on so asks reads clean l);
+    loads = λ clean l settled said. let judged = judged_on so asks reads clean l in (judged.0, fault_by fault back judged.1);
     same = λ clean l. seen_by fault (so.same (early so asks reads clean) l c) (reads.same clean tree (asks_on so asks reads clean l));
     rested = rested_on so asks reads;
     lives = lives_on so asks reads;
     crash = crash_on so asks reads;
+    fault = reads.fault;
+    autocommit = λ out. reads.autocommit (so.autocommit out);
   })

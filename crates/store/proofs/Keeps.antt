@@ -1,5 +1,6 @@
 -- What a call inside a transaction keeps.
-use Rattle.std.proofs.Common.{arith, ◌⊎◌, inl, inr, ℕ, List, Ok, Err, Result, Some, None, Bool, true, false, MatchBool, ◌≢◌, IfOk, IfErr, OnOk, IsTrue, ◌≡◌, refl, subst, ◌∙◌}
+use Rattle.std.proofs.Common.{arith, ◌⊎◌, inl, inr, ℕ, List, Ok, Err, Result, Some, None, Bool, true, false, cond, MatchBool, ◌≢◌, IsOk, IsErr, IfOk, IfErr, OnOk, IsTrue, ◌≡◌, refl, sym, ap, subst, ◌∙◌, MutBor}
+use Rattle.std.proofs.lemmas.Result.{on_ok_weaker}
 use Rattle.std.proofs.lemmas.Bool.{cases_Bool}
 use Rattle.sqlite_value.specs.Order.{Row}
 use Rattle.sqlite_resolve.specs.declared.compiled.Compiled.{Compiled}
@@ -10,7 +11,7 @@ use Rattle.sqlite.specs.State.{State, Survives, KeepsCommit, HasCleanDisk, IsUnc
 use Rattle.sqlite_trees.specs.declared.store.Store.{Ghosts}
 use Rattle.sqlite.specs.Held.{Held, state}
 use Rattle.sqlite.specs.Listing.{understood}
-use Rattle.store.specs.Inside.{IsWorking, WasOpen, Stays}
+use Rattle.store.specs.Inside.{WasOpen, Stays}
 use Rattle.sqlite.proofs.Callers.{IsPlain, never_commits}
 use Rattle.sqlite.proofs.StateLemmas.{survives_then}
 
@@ -35,11 +36,6 @@ unfolding FailsToQuery
 kept_failed sql params old new e (inl (inl h)) = kept_not_run old new sql params e h
 kept_failed sql params old new e (inl (inr h)) = kept_showing old new sql h.0 _ e h.0.returning h.2
 kept_failed sql params old new e (inr h) = kept_unchanged old new h.5
-
-pub kept_shown : {X : Type 0} (sql : List ℕ) (params : Row) (old new : State) (r : Result X Error) → OnOk r (IsUnchanged old new)
-    → IfErr r (λ e. FailsToQuery sql params old new e ⊎ IsTooLate sql params old new e) → KeepsCommit old new
-kept_shown sql params old new (Ok x) same failed = kept_unchanged old new same
-kept_shown sql params old new (Err e) same failed = kept_failed sql params old new e failed
 
 pub kept_executed : (held : ℕ) (sql : List ℕ) (params : Row) (old new : State) (r : Result ℕ Error) → ExecutesInside held sql params old new r → KeepsCommit old new
 kept_executed held sql params old new (Ok count) h = record { was_open = λ _. h.1.was_open; committed = λ _. h.1.committed_is }
@@ -73,13 +69,30 @@ kept_then a b c one two = record { was_open = λ is_open. one.was_open (two.was_
 pub inside_then : (a b c : State) → Survives a b (λ _. ⊥) → Survives b c (λ _. ⊥) → Survives a c (λ _. ⊥)
 inside_then a b c one two = survives_then a b c (λ _. ⊥) (λ _. ⊥) (λ _. ⊥) (λ _ db none. none) (λ _ db none. none) one two
 
--- a call after others that went on
-pub stays_then : (a b c : State) → Stays a b → (HasCleanDisk b → IsWorking a → IsWorking b) → Stays b c → Stays a c
-stays_then a b c one on two = record {
-  kept = λ clean was. let early : HasCleanDisk b = omega (arith, two.survives.clean, clean) in kept_then a b c (one.kept early was) (two.kept clean (on early was));
-  survives = inside_then a b c one.survives two.survives;
-  opened = λ clean is_open. one.opened (omega (arith, two.survives.clean, clean)) (two.opened clean is_open);
-}
+-- what calls have kept that all answered
+abbrev pub HaveStayed : {S : Type 0} → Ghosts S → MutBor (Held S) → MutBor (Held S) → Type 0
+HaveStayed g a b = Stays {X = Unit {0}} {E = Error} g a b (Ok tt)
+
+-- a call after one that answered
+pub stays_then : {S X E Y F : Type 0} {g : Ghosts S} {a b c : MutBor (Held S)} {x : X} {r : Result Y F} → Stays {E = E} g a b (Ok x) → Stays g b c r → Stays g a c r
+stays_then {g = g} {a = a} {b = b} {c = c} {r = r} one two =
+    let early : HasCleanDisk (state g c.now) → HasCleanDisk (state g b.now) = λ clean. omega (arith, two.survives.clean, clean) in
+    record {
+      same_reference = two.same_reference ∙ one.same_reference;
+      kept = λ clean inside. kept_then (state g a.now) (state g b.now) (state g c.now) (one.kept (early clean) inside) (two.kept clean (one.inside (early clean) ∙ inside));
+      survives = inside_then (state g a.now) (state g b.now) (state g c.now) one.survives two.survives;
+      inside = on_ok_weaker r (λ on clean. on clean ∙ one.inside (early clean)) two.inside;
+      opened = λ clean is_open. one.opened (early clean) (two.opened clean is_open);
+    }
+
+-- another answer
+pub stays_ok : {S X E Y F : Type 0} {g : Ghosts S} {a b : MutBor (Held S)} {x : X} {y : Y} → Stays {E = E} g a b (Ok x) → Stays {E = F} g a b (Ok y)
+stays_ok s = record { same_reference = s.same_reference; kept = s.kept; survives = s.survives; inside = s.inside; opened = s.opened }
+
+-- a failure that is handed on
+pub stays_err : {S X E Y F : Type 0} {g : Ghosts S} {a b : MutBor (Held S)} {e : E} {r : Result Y F} → Stays {X = X} g a b (Err e) → IsErr r → Stays g a b r
+stays_err {r = Ok y} s failed = absurd (cc)
+stays_err {r = Err f} s failed = record { same_reference = s.same_reference; kept = s.kept; survives = s.survives; inside = tt; opened = s.opened }
 
 -- ---- a query outside a transaction
 pub kept_query : {X : Type 0} (sql : List ℕ) (params : Row) (old new : State) (r : Result X Error) → OnOk r (IsUnchanged old new) → IfErr r (FailsToQuery sql params old new) → KeepsCommit old new
@@ -121,6 +134,8 @@ pub opened_query : {X : Type 0} (items : X → List Row) (sql : List ℕ) (param
 opened_query items sql params old new (Ok x) ok err is_open = open_shown sql params old new (items x) ok
 opened_query items sql params old new (Err e) ok err is_open = (kept_failed sql params old new e (inl err)).was_open is_open
 
+-- ---- a call inside, from what the database says of it
+
 opened_executed : {S : Type 0} {P : Type 0} (g : Ghosts S) (h k : Held S) (sql : List ℕ) (params : Row) (r : Result ℕ Error) → (h.in_transaction ≡ false → P × (k ≡ h))
     → (IsTrue h.in_transaction → ExecutesInside 0 sql params (state g h) (state g k) r) → WasOpen (state g h) (state g k)
 opened_executed {S = S} g h k sql params r ended runs is_open = elim (cases_Bool h.in_transaction) [
@@ -128,20 +143,67 @@ opened_executed {S = S} g h k sql params r ended runs is_open = elim (cases_Bool
   | inr out ↦ subst (λ (x : Held S). IsTrue (state g x).is_open) (ended out).1 is_open
 ]
 
--- ---- a call inside, from what the database says of it
-pub stays_executed : {S : Type 0} {P : Type 0} (g : Ghosts S) (h k : Held S) (sql : List ℕ) (params : Row) (r : Result ℕ Error) → (h.in_transaction ≡ false → P × (k ≡ h))
-    → (HasCleanDisk (state g k) → IsTrue h.in_transaction → ExecutesInside 0 sql params (state g h) (state g k) r) → Survives (state g h) (state g k) (λ _. ⊥) → Stays (state g h) (state g k)
-stays_executed g h k sql params r ended runs survives = record {
-  kept = λ clean was. kept_executed 0 sql params (state g h) (state g k) r (runs clean (rw was.inside refl));
-  survives = survives;
-  opened = λ clean. opened_executed g h k sql params r ended (runs clean);
-}
+module _ {S : Type 0} {P : Type 0} (g : Ghosts S) (a b : MutBor (Held S)) (sql : List ℕ) (params : Row) (outcome : Result ℕ Error) (same_reference : b.ghost_name ≡ a.ghost_name)
+    (ended : a.now.in_transaction ≡ false → P × (b.now ≡ a.now)) (runs : HasCleanDisk (state g b.now) → IsTrue a.now.in_transaction → ExecutesInside 0 sql params (state g a.now) (state g b.now) outcome)
+    (survives : Survives (state g a.now) (state g b.now) (λ _. ⊥)) where
+  -- an answer to an outcome after which the transaction goes on
+  stays_answered : {X : Type 0} (r : Result X Error)
+      → OnOk r (IsTrue a.now.in_transaction → ExecutesInside 0 sql params (state g a.now) (state g b.now) outcome → b.now.in_transaction ≡ a.now.in_transaction) → Stays g a b r
+  stays_answered r goes = record {
+    same_reference = same_reference;
+    kept = λ clean inside. kept_executed 0 sql params (state g a.now) (state g b.now) outcome (runs clean inside);
+    survives = survives;
+    inside = on_ok_weaker r (λ on clean. elim (cases_Bool a.now.in_transaction) [ inl inside ↦ on inside (runs clean inside) | inr out ↦ ap (λ (x : Held S). x.in_transaction) (ended out).1 ]) goes;
+    opened = λ clean. opened_executed g a.now b.now sql params outcome ended (runs clean);
+  }
 
-pub stays_shown : {X : Type 0} (items : X → List Row) (sql : List ℕ) (params : Row) (old new : State) (r : Result X Error) → (HasCleanDisk new → IfOk r (λ x. Shown sql params old new (items x)))
-    → (HasCleanDisk new → IfErr r (λ e. FailsToQuery sql params old new e ⊎ IsTooLate sql params old new e)) → (HasCleanDisk new → IsWorking old → OnOk r (IsUnchanged old new))
-    → Survives old new (λ _. ⊥) → Stays old new
-stays_shown items sql params old new r ok err same survives = record {
-  kept = λ clean was. kept_shown sql params old new r (same clean was) (err clean);
-  survives = survives;
-  opened = λ clean. opened_shown items sql params old new r (ok clean) (err clean);
-}
+  pub stays_executed : Stays g a b outcome
+  stays_executed = stays_answered outcome (goes outcome)
+    where
+      goes : (r : Result ℕ Error) → OnOk r (IsTrue a.now.in_transaction → ExecutesInside 0 sql params (state g a.now) (state g b.now) r → b.now.in_transaction ≡ a.now.in_transaction)
+      goes (Ok n) = λ inside h. h.1.mode ∙ sym inside
+      goes (Err e) = tt
+
+  -- whether an INSERT put its rows in, or a rule refused it
+  pub stays_inserted : (r : Result Bool Error) (e : Error) → ((cause : StoreError) → e ≢ store_error cause) → (r ≡ Ok true → IsOk outcome) → (r ≡ Ok false → outcome ≡ Err e) → Stays g a b r
+  stays_inserted (Ok true) e no_fault ok refused = stays_answered (Ok true) (λ inside h. goes outcome (ok refl) h ∙ sym inside)
+    where
+      goes : (r : Result ℕ Error) → IsOk r → ExecutesInside 0 sql params (state g a.now) (state g b.now) r → b.now.in_transaction ≡ true
+      goes (Ok n) is h = h.1.mode
+      goes (Err f) is h = absurd (cc)
+  stays_inserted (Ok false) e no_fault ok refused =
+      stays_answered (Ok false) (λ inside h. (refused_same sql (state g a.now) (state g b.now) e no_fault params (subst (ExecutesInside 0 sql params (state g a.now) (state g b.now)) (refused refl) h)).0.mode)
+  stays_inserted (Err f) e no_fault ok refused = stays_answered (Err f) tt
+
+module _ (old new : State) (sql : List ℕ) (c : Compiled) (params : Row) (rows : List Row) where
+  showing_kept : (r : _) → ShowsRows old new sql c params rows r → old.in_transaction ≡ true → KeepsCommit old new
+  showing_kept None h inside = kept_unchanged old new h.3
+  showing_kept (Some what) h inside = record { was_open = λ _. h.1.shown.was_open; committed = λ _. h.1.shown.committed_is ∙ ap (λ b. cond b old.committed new.now) inside }
+
+  showing_inside : (r : _) → ShowsRows old new sql c params rows r → new.in_transaction ≡ old.in_transaction
+  showing_inside None h = h.3.0.mode
+  showing_inside (Some what) h = h.1.shown.mode
+
+module _ {S : Type 0} {X : Type 0} (g : Ghosts S) (a b : MutBor (Held S)) (items : X → List Row) (sql : List ℕ) (params : Row) where
+  kept_shown : (r : Result X Error) → IfOk r (λ x. Shown sql params (state g a.now) (state g b.now) (items x))
+      → IfErr r (λ e. FailsToQuery sql params (state g a.now) (state g b.now) e ⊎ IsTooLate sql params (state g a.now) (state g b.now) e) → IsTrue a.now.in_transaction → KeepsCommit (state g a.now) (state g b.now)
+  unfolding Shown
+  kept_shown (Ok x) ok err inside = showing_kept (state g a.now) (state g b.now) sql ok.0 _ (items x) ok.0.returning ok.2 inside
+  kept_shown (Err e) ok err inside = kept_failed sql params (state g a.now) (state g b.now) e err
+
+  inside_shown : (r : Result X Error) → (HasCleanDisk (state g b.now) → IfOk r (λ x. Shown sql params (state g a.now) (state g b.now) (items x)))
+      → OnOk r (HasCleanDisk (state g b.now) → b.now.in_transaction ≡ a.now.in_transaction)
+  unfolding Shown
+  inside_shown (Ok x) ok = λ clean. let h = ok clean in showing_inside (state g a.now) (state g b.now) sql h.0 _ (items x) h.0.returning h.2
+  inside_shown (Err e) ok = tt
+
+  pub stays_shown : (r : Result X Error) → b.ghost_name ≡ a.ghost_name → (HasCleanDisk (state g b.now) → IfOk r (λ x. Shown sql params (state g a.now) (state g b.now) (items x)))
+      → (HasCleanDisk (state g b.now) → IfErr r (λ e. FailsToQuery sql params (state g a.now) (state g b.now) e ⊎ IsTooLate sql params (state g a.now) (state g b.now) e))
+      → Survives (state g a.now) (state g b.now) (λ _. ⊥) → Stays g a b r
+  stays_shown r same_reference ok err survives = record {
+    same_reference = same_reference;
+    kept = λ clean inside. kept_shown r (ok clean) (err clean) inside;
+    survives = survives;
+    inside = inside_shown r ok;
+    opened = λ clean. opened_shown items sql params (state g a.now) (state g b.now) r (ok clean) (err clean);
+  }

@@ -19,7 +19,7 @@ use Rattle.sqlite_value.specs.Order.{Row}
 use Rattle.store.specs.declared.table.meta.Meta.{Meta}
 use Rattle.store.specs.Judge.{IsMeta, IsOnly, layouts}
 use Rattle.store.specs.Rows.{SaysLayout, meta_rows, IsMetaRow}
-use Rattle.store.specs.Load.{StatesLayout, HasLayout, Enters}
+use Rattle.store.specs.Load.{StatesLayout, HasLayout, Enters, EntersWhere}
 use Rattle.store.specs.declared.load.Loaded.{Loaded}
 use Rattle.store.specs.Beside.{LiesBeside}
 use Rattle.store.specs.Open.{MayStandFor}
@@ -119,18 +119,32 @@ module _ (only : Option Names) (old mid new : State) (layout : KnownLayout) (r :
   reached : HasCleanDisk mid → IsFound mid layout
   reached clean = found old mid layout ready (same clean) (has clean)
 
-  pub entered_then : HasCleanDisk new → IfOk r (λ l. IsEntered only old new l.executed l.following)
+  entered_then : HasCleanDisk new → IfOk r (λ l. IsEntered only old new l.executed l.following)
   entered_then clean =
       let it = reached (early clean) in
       IfOk-weaker r _ _ (λ l e. entered_after only old mid new (same (early clean)) l.executed l.following e) (enters.entered clean it.ready it.has)
 
-  pub turned_then : (tables_of old.now.schema).meta ≡ true → HasCleanDisk new → IfErr r (IsTurned only old new)
+  turned_then : (tables_of old.now.schema).meta ≡ true → HasCleanDisk new → IfErr r (IsTurned only old new)
   turned_then meta clean =
       let it = reached (early clean) in
       IfErr-weaker r _ _ (λ fault t. turned_after only old mid new (same (early clean)) fault t) (enters.turned clean it.ready it.has (ap (λ (db : Stored). (tables_of db.schema).meta) (same (early clean)).0.now_is ∙ meta))
 
-  pub crash_then : Survives old mid (λ _. ⊥) → Survives old new (MayEnter (names_for only) old)
+  crash_then : Survives old mid (λ _. ⊥) → Survives old new (MayEnter (names_for only) old)
   crash_then one = may_then (names_for only) old mid new one enters.lives same (λ clean. let it = reached clean in enters.crash it.ready it.has)
+
+-- The same of a database of which this holds, whatever it was before.
+module _ {so : Type 0} {only : Option Names} {old mid new : State} {layout : KnownLayout} {r : Result Loaded StoreFault} (clean : HasCleanDisk mid → HasCleanDisk old) (one : IsReady old → so → Survives old mid (λ _. ⊥))
+    (same : IsReady old → so → HasCleanDisk mid → IsUnchanged old mid) (has : IsReady old → so → HasCleanDisk mid → HasLayout old.now layout) (meta : so → (tables_of old.now.schema).meta ≡ true)
+    (enters : Enters only layout mid new r) where
+  pub enters_then : EntersWhere so only old new r
+  enters_then = record {
+    entered = λ late ready is. entered_then only old mid new layout r enters ready (same ready is) (has ready is) late;
+    turned = λ late ready is. turned_then only old mid new layout r enters ready (same ready is) (has ready is) (meta is) late;
+    crash = λ ready is. crash_then only old mid new layout r enters ready (same ready is) (has ready is) (one ready is);
+    fault = enters.fault;
+    clean = λ late. clean (omega (arith, enters.lives.clean, late));
+    autocommit = enters.autocommit;
+  }
 
 pub meta_there : (schema : Schema) → HasMeta schema → (tables_of schema).meta ≡ true
 meta_there schema m = ap is_some m.found.by_name

@@ -1,5 +1,5 @@
 -- From the answer of a query for a whole table to the table.
-use Rattle.std.proofs.Common.{◌≡◌, Bool, true, false, MatchBool, List, map, Ok, Err, Result, IfOk, refl, sym, ap, ◌∙◌}
+use Rattle.std.proofs.Common.{IfErr, ◌≡◌, Bool, true, false, MatchBool, List, map, Ok, Err, Result, IfOk, refl, sym, ap, ◌∙◌}
 use Rattle.std.specs.List.{AllByRecursion, IsDistinct}
 use Rattle.std.specs.Ordering.{is_eq, ordering_reverse, eq_by_cmp}
 use Rattle.std.specs.Cmp.{IsTotalOrder}
@@ -22,7 +22,8 @@ use Rattle.store.specs.declared.fault.StoreFault.TheVariants.{Damaged}
 use Rattle.store.specs.Rows.{alike, HasRowids, IsMetaRow, IsHeldRow, IsFollowRow, IsSpanRow, IsExecutedRow, AreNames, AreSpans, touches, shown_span, span_in, id_in, name_in}
 use Rattle.store.specs.declared.table.meta.Meta.{Meta}
 use Rattle.store.specs.Judge.{IsMeta}
-use Rattle.store.specs.Load.{Judges, OnSeen}
+use Rattle.store.specs.Load.{Judges, OnSeen, IsLoadFault}
+use Rattle.store.proofs.Steps.{fault_by}
 use Rattle.store.proofs.Laid.{only_back}
 use Rattle.store.proofs.SpanRows.{flips}
 
@@ -33,8 +34,12 @@ on_seen (Err _) p = tt
 
 pub judged_by : {X : Type 0} {Good Other : X → Type 0} {rules others : Type 0} (r : Result X StoreFault) → ((x : X) → Good x → Other x) → (others → rules) → Judges r Good rules → Judges r Other others
 judged_by (Ok x) good back h = good x h
-judged_by (Err Damaged) good back h = λ o. h (back o)
-judged_by (Err _) good back h = tt
+judged_by (Err fault) good back h = (h.0, fault_by fault back h.1)
+
+-- which faults a judgement admits
+pub judged_fault : {X : Type 0} (Good : X → Type 0) (rules : Type 0) (r : Result X StoreFault) → Judges r Good rules → IfErr r IsLoadFault
+judged_fault Good rules (Ok x) h = tt
+judged_fault Good rules (Err fault) h = h.0
 
 either_way : (o : Ordering) → is_eq (ordering_reverse o) ≡ is_eq o
 either_way Less = refl

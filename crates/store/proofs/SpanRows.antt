@@ -17,10 +17,11 @@ use Rattle.gtid.proofs.Sets.{id_cmp_total, id_cmp-same, tied}
 use Rattle.gtid.proofs.SomeLeastList.{one_number}
 use Rattle.binlog.proofs.Admitted.{bytes_eq-sym}
 use Rattle.store.specs.declared.fault.StoreFault.{StoreFault}
-use Rattle.store.specs.declared.fault.StoreFault.TheVariants.{Memory, Damaged}
+use Rattle.store.specs.declared.fault.StoreFault.TheVariants.{Memory}
 use Rattle.store.specs.Rows.{IsSpanRow, IsExecutedRow, HasRowids, AreSpans, touches, stored_span, shown_span, shown_spans, span_in, id_in}
 use Rattle.store.specs.Judge.{span_of_id, apart_from}
 use Rattle.store.specs.Load.{Judges}
+use Rattle.store.proofs.Steps.{fault_by}
 use Rattle.store.proofs.SortedSpans.{all_distinct, sorted_of}
 
 -- ---- Spans in order, of which no two consecutive ones touch.
@@ -77,7 +78,7 @@ module _ (spans sorted : List Span) (same : IsPermutation spans sorted) (rise : 
 
 pub set_covers : (spans sorted : List Span) (rules : Type 0) (r : Result Ids StoreFault) → IsPermutation spans sorted → IfOk r (Covers sorted) → IfErr r (λ fault. fault ≡ Memory) → Judges r (Covers spans) rules
 set_covers spans sorted rules (Ok ids) same ok err = λ q. ok q ∙ sym (list_any-IsPermutation (is_in q) spans sorted same)
-set_covers spans sorted rules (Err e) same ok err = subst (λ f. Judges {X = Ids} (Err f) (Covers spans) rules) (sym err) tt
+set_covers spans sorted rules (Err e) same ok err = subst (λ f. Judges {X = Ids} (Err f) (Covers spans) rules) (sym err) (tt, tt)
 
 -- ---- Rows of spans.
 
@@ -133,8 +134,7 @@ spans_are rows ids all up c =
 pub spans_judged : (rows : List Row) (spans : List Span) (r : Result Ids StoreFault) → AllByRecursion IsSpanRow rows → HasRowids rows → spans ≡ map span_in rows → OnOk r (IsDistinct touches spans)
     → Judges r (Covers spans) (IsDistinct touches spans) → Judges r (λ ids. AreSpans rows ids × HasRowids rows) (AllByRecursion IsSpanRow rows × IsDistinct touches (map span_in rows))
 spans_judged rows spans (Ok ids) all rowids is up covers = (spans_are rows ids all (subst (IsDistinct touches) is up) (subst (λ l. Covers l ids) is covers), rowids)
-spans_judged rows spans (Err Damaged) all rowids is up off = λ rules. off (subst (IsDistinct touches) (sym is) rules.1)
-spans_judged rows spans (Err _) all rowids is up h = tt
+spans_judged rows spans (Err fault) all rowids is up off = (off.0, fault_by fault (λ rules. subst (IsDistinct touches) (sym is) rules.1) off.1)
 
 -- ---- Rows of executed.
 
@@ -157,4 +157,4 @@ pub ids_judged : (rows : List Row) (spans : List Span) (r : Result Ids StoreFaul
 ids_judged rows spans (Ok ids) all is ok err =
     let c : Covers (map (λ r. span_of_id (id_in r)) rows) ids = subst (λ l. Covers l ids) is ok in
     (all, set.same_set id_cmp_total id_cmp-same ids (set.from_list (map id_in rows)) (λ q. c q ∙ listed_ids q rows ∙ sym (set.contains-from_list id_cmp_total (map id_in rows) q)))
-ids_judged rows spans (Err e) all is ok err = subst (λ f. Judges {X = Ids} (Err f) (λ ids. AllByRecursion IsExecutedRow rows × (ids ≡ set.from_list (map id_in rows))) (AllByRecursion IsExecutedRow rows)) (sym err) tt
+ids_judged rows spans (Err e) all is ok err = subst (λ f. Judges {X = Ids} (Err f) (λ ids. AllByRecursion IsExecutedRow rows × (ids ≡ set.from_list (map id_in rows))) (AllByRecursion IsExecutedRow rows)) (sym err) (tt, tt)

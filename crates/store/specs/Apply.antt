@@ -1,5 +1,5 @@
 -- A transaction of the source as one transaction of the database.
-use Rattle.std.specs.Prelude.{Bool, false, ◌≡◌, ℕ, IsTrue, MatchBool, Option, Some, None, Result, Ok, Err}
+use Rattle.std.specs.Prelude.{Bool, false, ◌≡◌, ℕ, IsTrue, MatchBool, Option, Some, None, Result, Ok, Err, ◌≢◌, OnOk, IfErr}
 use Rattle.sqlite_schema.specs.declared.schema.Schema.{Schema}
 use Rattle.sqlite_trees.specs.Tree.{Trees}
 use Rattle.sqlite_catalog.specs.Listing.{IsSound}
@@ -17,10 +17,11 @@ use Rattle.store.specs.declared.fault.Applied.TheVariants.{Done, Repeat}
 use Rattle.store.specs.declared.fault.StoreFault.{StoreFault}
 use Rattle.store.specs.declared.fault.StoreFault.TheVariants.{NoSuchRow, CountFull, Database, Memory}
 use Rattle.store.specs.State.{Content}
-use Rattle.store.specs.Changes.{is_executed, HasOutcome, done, refused}
+use Rattle.store.specs.Changes.{is_executed, with_executed, HasOutcome, done, refused}
 use Rattle.store.specs.Rows.{StandsFor, HasRowids, held_rows, span_rows}
 use Rattle.store.specs.Inside.{StaysOpen, WasOpen}
 use Rattle.store.specs.Beside.{LiesBeside}
+use Rattle.store.specs.Faults.{IsApplyFault}
 
 -- The trees list this schema and obey it, and under it they stand for the content.
 pub record AreOf (schema : Schema) (names : Names) (content : Content) (trees : Trees) : Type 0 where
@@ -96,6 +97,7 @@ pub record IsRun {E : Type 0} (in_order : Bool) (names : Names) (d : DeliveryVal
   pub done : HasCleanDisk new → r ≡ Ok None → IsTrue new.is_open
   pub lives : Survives old new (λ _. Unit {0})
   pub crash : (content : Content) → IsAtRest old names content → IsNew old.now names content d beside → Survives old new (MayCommit names content d old.now r)
+  pub autocommit : new.in_transaction ≡ false
 
 -- ---- The executed set in memory, besides the connection.
 
@@ -140,9 +142,30 @@ FailsShut new old_set set (Err (Database e)) = (new.is_open ≡ false) × (set �
 FailsShut new old_set set (Err Memory) = (new.is_open ≡ false) × (set ≡ old_set)
 FailsShut new old_set set _ = ⊥
 
+-- What a call comes to that applies a transaction which is not in this executed set. It answers the set as it is then.
+pub record RunsNew (names : Names) (d : DeliveryValue) (set : Ids) (old new : State) (after : Ids) (r : Result Applied StoreFault) : Type 0 where
+  pub comes : HasCleanDisk new → (content : Content) → IsAtRest old names content → set ≡ content.executed → Comes names content d old new after r
+  pub crash : (content : Content) → IsAtRest old names content → set ≡ content.executed → Survives old new (MayMove names content d old.now r)
+  pub lives : Survives old new (λ _. Unit {0})
+  pub shut : HasCleanDisk new → old.is_open ≡ false → FailsShut new set after r
+  pub other : r ≢ Err Memory
+  pub fault : IfErr r IsApplyFault
+  pub autocommit : new.in_transaction ≡ false
+
 -- ---- Another executed set.
 
 -- The connection is at rest with this content, and the schema and what lies beside are the same; or nothing has changed.
 abbrev pub Replaces : {E : Type 0} → Names → Content → State → State → Result (Unit {0}) E → Type 0
 Replaces names after old new (Ok u) = IsAtRest new names after × (new.now.schema ≡ old.now.schema) × LiesBeside old.now new.now
 Replaces names after old new (Err e) = Rests old new
+
+-- What a call comes to that stores the set after it in place of the executed set. A connection that is open then was open before, and after a
+-- commit it is open.
+pub record IsReplaced {E : Type 0} (executed after : Ids) (old new : State) (r : Result (Unit {0}) E) : Type 0 where
+  pub replaces : HasCleanDisk new → (names : Names) → (content : Content) → IsAtRest old names content → executed ≡ content.executed → Replaces names (with_executed after content) old new r
+  pub opened : HasCleanDisk new → WasOpen old new
+  pub done : HasCleanDisk new → OnOk r (IsTrue new.is_open)
+  pub lives : Survives old new (λ _. Unit {0})
+  pub crash : (names : Names) → (content : Content) → IsAtRest old names content → executed ≡ content.executed
+      → Survives old new (λ trees. AreOf old.now.schema names (with_executed after content) trees × SparesBeside old.now trees)
+  pub autocommit : new.in_transaction ≡ false

@@ -1,12 +1,15 @@
 -- Private: the effect of a call inside a transaction of the database.
-use Rattle.std.specs.Prelude.{◌≡◌, ◌≢◌, ◌<◌, [], nat_lt, ℕ, Bool, true, false, IsTrue, if◌then◌else◌, List, ◌∷◌, ◌++◌, MatchBool, Option, Some, None, Result, Ok, Err, IsPermutation, ℤ, map}
+use Rattle.std.specs.Prelude.{◌≡◌, ◌≢◌, ◌<◌, [], nat_lt, ℕ, Bool, true, false, IsTrue, if◌then◌else◌, List, ◌∷◌, ◌++◌, MatchBool, Option, Some, None, Result, Ok, Err, OnOk, IsPermutation, ℤ, map}
 use Rattle.std.specs.List.{AllByRecursion}
+use Rattle.std.specs.Borrow.{MutBor}
 use Rattle.sqlite_value.specs.Order.{Row}
 use Rattle.gtid.specs.Identifier.{Ids}
 use Rattle.gtid.specs.Span.{IsLeast, IsLeastList}
 use Rattle.gtid.specs.declared.span.Span.{Span}
 use Rattle.sqlite.specs.Effect.{IsDatabase}
 use Rattle.sqlite.specs.State.{State, HasCleanDisk, KeepsCommit, Survives, IsUnchanged}
+use Rattle.sqlite.specs.Held.{Held, state}
+use Rattle.sqlite_trees.specs.declared.store.Store.{Ghosts}
 use Rattle.binlog.specs.Filter.{Names}
 use Rattle.gather.specs.Image.{IsSomeImage}
 use Rattle.gather.specs.Transaction.{ChangeValue}
@@ -32,12 +35,25 @@ pub record IsWorking (s : State) : Type 0 where
 abbrev pub WasOpen : State → State → Type 0
 WasOpen old new = IsTrue new.is_open → IsTrue old.is_open
 
--- What a call inside a transaction keeps, whatever it answers: what was committed, for a crash too; and a connection that is open after
--- it was open before.
-pub record Stays (old new : State) : Type 0 where
-  pub kept : HasCleanDisk new → IsWorking old → KeepsCommit old new
-  pub survives : Survives old new (λ _. ⊥)
-  pub opened : HasCleanDisk new → WasOpen old new
+-- What a call inside a transaction keeps, whatever it answers.
+pub record Stays {S X E : Type 0} (g : Ghosts S) (old new : MutBor (Held S)) (r : Result X E) : Type 0 where
+  -- The transaction is of the same connection.
+  pub same_reference : new.ghost_name ≡ old.ghost_name
+  -- What was committed stays, for a crash too.
+  pub kept : HasCleanDisk (state g new.now) → (state g old.now).in_transaction ≡ true → KeepsCommit (state g old.now) (state g new.now)
+  pub survives : Survives (state g old.now) (state g new.now) (λ _. ⊥)
+  -- After an answer the transaction goes on.
+  pub inside : OnOk r (HasCleanDisk (state g new.now) → (state g new.now).in_transaction ≡ (state g old.now).in_transaction)
+  -- A connection that is open afterwards was open before.
+  pub opened : HasCleanDisk (state g new.now) → WasOpen (state g old.now) (state g new.now)
+
+-- This holds from the state before a call within a transaction, on a database of the layout, to the one after it, if the disk is clean then.
+abbrev pub Within : {S : Type 0} → Ghosts S → MutBor (Held S) → MutBor (Held S) → (State → State → Type 0) → Type 0
+Within g old new Holds = HasCleanDisk (state g new.now) → IsWorking (state g old.now) → Holds (state g old.now) (state g new.now)
+
+-- A call that answers turns a state of the one kind into one of the other kind, if the disk is clean then.
+abbrev pub TurnsInto : {S X E : Type 0} → Ghosts S → MutBor (Held S) → MutBor (Held S) → Result X E → (State → Type 0) → (State → Type 0) → Type 0
+TurnsInto g old new r Was Is = HasCleanDisk (state g new.now) → Was (state g old.now) → OnOk r (Is (state g new.now))
 
 -- The transaction goes on, and nothing is committed.
 pub record StaysOpen (old new : State) : Type 0 where

@@ -1,5 +1,5 @@
 -- The rows of a bag in order.
-use Rattle.std.specs.Prelude.{◌≡◌, ◌⊎◌, ℕ, ◌≤◌, List, [], ◌∷◌, ◌++◌, map, drop, false, Option, Some, None, Result, Ok, Err, codes, pos}
+use Rattle.std.specs.Prelude.{◌≡◌, ◌⊎◌, ℕ, ◌≤◌, List, [], ◌∷◌, ◌++◌, map, drop, false, Option, Some, None, Result, Ok, Err, IfErr, codes, pos}
 use Rattle.std.specs.List.{AllByRecursion, FoldsTo}
 use Rattle.std.specs.List.Sorted.{IsStrictlySortedBy}
 use Rattle.std.specs.Ordering.{nat_cmp, ordering_then}
@@ -9,7 +9,7 @@ use Rattle.std.specs.Cmp.Lexicographic.{slice_cmp}
 use Rattle.sqlite_trees.specs.declared.store.Store.{Ghosts}
 use Rattle.sqlite_value.specs.declared.value.Value.TheVariants.{Int, Blob}
 use Rattle.sqlite_value.specs.Order.{Row, column}
-use Rattle.sqlite.specs.State.{State, IsUnchanged}
+use Rattle.sqlite.specs.State.{State, HasCleanDisk, IsUnchanged, Survives}
 use Rattle.sqlite.specs.Held.{Held, state}
 use Rattle.sqlite.specs.Given.{HasGiven}
 use Rattle.gather.specs.Image.{HasImage, image}
@@ -21,6 +21,9 @@ use Rattle.store.specs.declared.store.Store.{Store}
 use Rattle.store.specs.State.{TableRow, row_of, Bag, Content}
 use Rattle.store.specs.Changes.{most}
 use Rattle.store.specs.Rows.{Key, key_for}
+use Rattle.binlog.specs.Filter.{Names}
+use Rattle.store.specs.Layout.{IsLaidOut}
+use Rattle.store.specs.Apply.{IsAtRest}
 use Rattle.store.specs.Load.{Rested}
 use Rattle.store.specs.Faults.{IsReadFault}
 use Rattle.store.specs.Store.{Holds, Keeps}
@@ -151,3 +154,12 @@ module _ {S : Type 0} (g : Ghosts S) where
     pub shown : map shown_entry first ≡ without_rowids rows
     pub lawful : AllByRecursion (λ (e : Entry). HasImage e.0.cells) first
     pub accepted : FoldsTo (Accepts gives) v first w
+
+-- What a call comes to that hands the rows of held to a visitor, by a query. Nothing changes.
+pub record ListsHeld {V F : Type 0} (gives : V → Entry → Result (Unit {0}) F → V → Type 0) (old new : State) (visitor after : V) (r : Result (Unit {0}) (ListError F)) : Type 0 where
+  pub hands : HasCleanDisk new → (names : Names) (content : Content) → IsAtRest old names content → Hands gives content.rows visitor after r × KeepsListed old new r
+  pub survives : IsLaidOut old.now.schema → Survives old new (λ _. ⊥)
+  pub clean : HasCleanDisk new → HasCleanDisk old
+  pub shut : HasCleanDisk new → old.is_open ≡ false → IsShut new visitor after r
+  pub fault : IfErr r IsListFault
+  pub autocommit : old.in_transaction ≡ false → new.in_transaction ≡ false

@@ -1,5 +1,5 @@
 -- Private: reading whole tables when a database is opened, and what the rows stand for.
-use Rattle.std.specs.Prelude.{◌≡◌, ℕ, ℤ, suc, zero, pos, negsuc, true, false, List, [], ◌∷◌, codes, length, Option, None, Result, Ok, Err, IfOk, IfErr, IsPermutation}
+use Rattle.std.specs.Prelude.{◌≡◌, ℕ, ℤ, suc, zero, pos, negsuc, true, false, List, [], ◌∷◌, codes, length, Option, None, Result, Ok, Err, IfOk, IfErr, OnOk, IsTrue, IsPermutation}
 use Rattle.sqlite_value.specs.declared.value.Value.TheVariants.{Int}
 use Rattle.sqlite_value.specs.declared.keys.Key.{Key}
 use Rattle.sqlite_sql.specs.Term.{Term, lit, col}
@@ -31,7 +31,10 @@ use Rattle.store.specs.declared.layout.KnownLayout.TheVariants.{First, Second}
 use Rattle.store.specs.Layout.{IsFirstLaidOut, IsLaidOut}
 use Rattle.store.specs.Rows.{SaysLayout, IsMetaRow, HasRowids, meta_rows}
 use Rattle.std.specs.List.{AllByRecursion}
+use Rattle.std.specs.Borrow.{MutBor}
 use Rattle.store.specs.Apply.{IsAtRest, Rests}
+use Rattle.store.specs.Inside.{WasOpen}
+use Rattle.store.specs.Faults.{IsOpenFault}
 use Rattle.store.specs.Open.{IsFirstAtRest}
 use Rattle.store.specs.Entering.{IsReady, IsEntered, IsTurned, MayEnter, names_for, tables_of}
 use Rattle.store.specs.declared.load.Loaded.{Loaded}
@@ -127,11 +130,6 @@ abbrev pub OnSeen : {X : Type 0} → Result X StoreFault → Type 0 → Type 0
 OnSeen (Ok x) P = P
 OnSeen (Err fault) P = OnDamaged fault P
 
--- The answer is lawful. If the rows are reported as damaged, they break the rules.
-abbrev pub Judges : {X : Type 0} → Result X StoreFault → (X → Type 0) → Type 0 → Type 0
-Judges (Ok x) Lawful rules = Lawful x
-Judges (Err fault) Lawful rules = OnDamaged fault (¬ rules)
-
 -- a statement failed, an allocation was refused, or the rows break the rules
 abbrev pub IsLoadFault : StoreFault → Type 0
 IsLoadFault (Database e) = Unit {0}
@@ -139,10 +137,39 @@ IsLoadFault Memory = Unit {0}
 IsLoadFault Damaged = Unit {0}
 IsLoadFault _ = ⊥
 
+-- The answer is lawful, or there is none. If the rows are reported as damaged, they break the rules.
+abbrev pub Judges : {X : Type 0} → Result X StoreFault → (X → Type 0) → Type 0 → Type 0
+Judges (Ok x) Lawful rules = Lawful x
+Judges (Err fault) Lawful rules = IsLoadFault fault × OnDamaged fault (¬ rules)
+
 -- Nothing is committed, and if there was nothing to commit, nothing has changed if the connection is still open.
 pub record Rested (old new : State) : Type 0 where
   pub commit : KeepsCommit old new
   pub rests : old.now ≡ old.committed → Rests old new
+
+-- What a call comes to that reads from tables which are laid out so. Nothing is committed.
+pub record Looks {X E : Type 0} (laid : Type 0) (old new : State) (r : Result X E) : Type 0 where
+  pub same : HasCleanDisk new → laid → OnOk r (IsUnchanged old new)
+  pub rested : HasCleanDisk new → laid → Rested old new
+  pub survives : laid → Survives old new (λ _. ⊥)
+  -- A connection that is open afterwards was open before, and one that answered was open.
+  pub opened : HasCleanDisk new → WasOpen old new
+  pub live : HasCleanDisk new → OnOk r (IsTrue old.is_open)
+  -- If the disk is clean afterwards, it was so before.
+  pub clean : HasCleanDisk new → HasCleanDisk old
+  -- No transaction is begun.
+  pub autocommit : old.in_transaction ≡ false → new.in_transaction ≡ false
+
+-- What a call comes to that reads all rows of a table, in the order that the text asks for. Nothing is committed.
+pub record ReadsRows {X E : Type 0} (text : List ℕ) (old new : State) (r : Result X E) (items : X → List Row) : Type 0 where
+  pub rows : HasCleanDisk new → (tree : ℕ) → AsksAll old.now.schema text tree → IfOk r (λ x. IsPermutation (old.now.trees tree) (items x))
+  pub ascend : HasCleanDisk new → (tree : ℕ) → (asks : AsksAll old.now.schema text tree) → IfOk r (λ x. Ascends (by_order asks.order) (items x))
+  pub same : HasCleanDisk new → (tree : ℕ) → AsksAll old.now.schema text tree → OnOk r (IsUnchanged old new)
+  pub rested : HasCleanDisk new → (tree : ℕ) → AsksAll old.now.schema text tree → Rested old new
+  pub crash : Survives old new (λ _. (tree : ℕ) → ¬ AsksAll old.now.schema text tree)
+  pub opened : HasCleanDisk new → WasOpen old new
+  pub live : HasCleanDisk new → OnOk r (IsTrue old.is_open)
+  pub autocommit : old.in_transaction ≡ false → new.in_transaction ≡ false
 
 -- What a call comes to that reads all rows of the table that the text asks for: its answer is judged by these rules. Nothing is committed.
 pub record ReadsAll {X : Type 0} (text : List ℕ) (old new : State) (r : Result X StoreFault) (Lawful : List Row → X → Type 0) (rules : List Row → Type 0) : Type 0 where
@@ -150,6 +177,8 @@ pub record ReadsAll {X : Type 0} (text : List ℕ) (old new : State) (r : Result
   pub same : HasCleanDisk new → (tree : ℕ) → AsksAll old.now.schema text tree → OnSeen r (IsUnchanged old new)
   pub rested : HasCleanDisk new → (tree : ℕ) → AsksAll old.now.schema text tree → Rested old new
   pub crash : Survives old new (λ _. (tree : ℕ) → ¬ AsksAll old.now.schema text tree)
+  pub fault : IfErr r IsLoadFault
+  pub autocommit : old.in_transaction ≡ false → new.in_transaction ≡ false
 
 -- What a call comes to that reads all tables, where they are laid out so and `meta` says so: its answer is judged by these rules. Nothing is
 -- committed.
@@ -159,8 +188,18 @@ pub record LoadsAll {X : Type 0} (laid says : Type 0) (old new : State) (r : Res
   pub rested : HasCleanDisk new → laid → Rested old new
   pub lives : Survives old new (λ _. Unit {0})
   pub crash : laid → Survives old new (λ _. ⊥)
+  pub fault : IfErr r IsLoadFault
+  pub autocommit : old.in_transaction ≡ false → new.in_transaction ≡ false
 
 -- ---- Rows of held that are read one at a time.
+
+-- What reading on in a query keeps, whatever it answers.
+pub record ReadsOn {S : Type 0} (g : Ghosts S) (old new : MutBor (Held S)) : Type 0 where
+  -- The rows are of the same connection.
+  pub same_reference : new.ghost_name ≡ old.ghost_name
+  -- Nothing is committed, and no transaction is begun.
+  pub survives : Survives (state g old.now) (state g new.now) (λ _. ⊥)
+  pub autocommit : old.now.in_transaction ≡ false → new.now.in_transaction ≡ false
 
 -- The query has given all its rows, and this is the verdict on them. Nothing has changed.
 pub record HasJudged (text : List ℕ) (old new : State) (verdict : Verdict) : Type 0 where
@@ -190,11 +229,22 @@ pub record IsFirstLoaded (s : State) (executed : Ids) : Type 0 where
   pub rest : IsFirstAtRest s content
   pub executed_is : executed ≡ content.executed
 
--- ---- Entering a database whose `meta` was read.
+-- ---- Entering a database.
 
--- What a call comes to that enters a database of this layout, if it is made for these names.
+-- What a call comes to that enters a database of which this holds.
+pub record EntersWhere (so : Type 0) (only : Option Names) (old new : State) (r : Result Loaded StoreFault) : Type 0 where
+  pub entered : HasCleanDisk new → IsReady old → so → IfOk r (λ l. IsEntered only old new l.executed l.following)
+  pub turned : HasCleanDisk new → IsReady old → so → IfErr r (IsTurned only old new)
+  pub crash : IsReady old → so → Survives old new (MayEnter (names_for only) old)
+  pub fault : IfErr r (IsOpenFault only)
+  pub clean : HasCleanDisk new → HasCleanDisk old
+  pub autocommit : new.in_transaction ≡ false
+
+-- What a call comes to that enters a database of this layout, whose `meta` was read, if it is made for these names.
 pub record Enters (only : Option Names) (layout : KnownLayout) (old new : State) (r : Result Loaded StoreFault) : Type 0 where
   pub entered : HasCleanDisk new → IsReady old → HasLayout old.now layout → IfOk r (λ l. IsEntered only old new l.executed l.following)
   pub turned : HasCleanDisk new → IsReady old → HasLayout old.now layout → (tables_of old.now.schema).meta ≡ true → IfErr r (IsTurned only old new)
   pub lives : Survives old new (λ _. Unit {0})
   pub crash : IsReady old → HasLayout old.now layout → Survives old new (MayEnter (names_for only) old)
+  pub fault : IfErr r (IsOpenFault only)
+  pub autocommit : new.in_transaction ≡ false

@@ -1,15 +1,12 @@
 //! Adopting an executed set.
 
-ghost use Rattle.std.specs.Prelude.{◌≡◌, true, false, Ok, Err, IsErr, IsTrue, OnOk, IfOk, IfErr};
+ghost use Rattle.std.specs.Prelude.{◌≡◌, true, false, Ok, Err, IsErr, IsTrue, IfOk, IfErr};
 ghost use Rattle.std.specs.FinSet as set;
-ghost use Rattle.sqlite.specs.State.{HasCleanDisk, Survives};
+ghost use Rattle.sqlite.specs.State.{HasCleanDisk};
 ghost use Rattle.sqlite.specs.Held.{state};
-ghost use Rattle.binlog.specs.Filter.{Names};
 ghost use Rattle.store.specs.State.{Content};
-ghost use Rattle.store.specs.Changes.{with_executed};
-ghost use Rattle.store.specs.Inside.{WasOpen};
 ghost use Rattle.store.specs.Beside.{LiesBeside};
-ghost use Rattle.store.specs.Apply.{SparesBeside, IsAtRest, Replaces, AreOf};
+ghost use Rattle.store.specs.Apply.{SparesBeside, IsReplaced};
 ghost use Rattle.store.specs.Faults.{IsAdoptFault};
 ghost use Rattle.store.specs.Store.{Holds, Keeps, Adopts, AdoptsShut, LeavesAdopted, database, names_of, IsBroken, IsUnbroken};
 ghost use Rattle.store.specs.declared.fault.StoreFault.TheVariants.{Broken};
@@ -38,21 +35,8 @@ fn replace<S: Alter>(
     after: &GtidSet,
 ) -> Result<(), Error>
     requires { conn.old.in_transaction ≡ false }
-    ensures autocommit { conn.new.in_transaction ≡ false }
-    ensures replaces { HasCleanDisk (state S.Store conn.new) → (names : Names) → (content : Content)
-        → IsAtRest (state S.Store conn.old) names content → executed.now ≡ content.executed
-        → Replaces names (with_executed after.now content) (state S.Store conn.old)
+    ensures { IsReplaced executed.now after.now (state S.Store conn.old)
         (state S.Store conn.new) result }
-    ensures opened { HasCleanDisk (state S.Store conn.new)
-        → WasOpen (state S.Store conn.old) (state S.Store conn.new) }
-    ensures done { HasCleanDisk (state S.Store conn.new)
-        → OnOk result (IsTrue (state S.Store conn.new).is_open) }
-    ensures lives { Survives (state S.Store conn.old) (state S.Store conn.new) (λ _. Unit {0}) }
-    ensures crash { (names : Names) → (content : Content)
-        → IsAtRest (state S.Store conn.old) names content → executed.now ≡ content.executed
-        → Survives (state S.Store conn.old) (state S.Store conn.new)
-        (λ trees. AreOf (state S.Store conn.old).now.schema names
-        (with_executed after.now content) trees × SparesBeside (state S.Store conn.old).now trees) }
 {
     let mut tx = conn.transaction();
     replace_all(&mut tx, executed, after)?;

@@ -9,7 +9,7 @@ ghost use Rattle.gather.specs.View.{delivery_value};
 ghost use Rattle.store.specs.State.{Content};
 ghost use Rattle.store.specs.Changes.{is_executed};
 ghost use Rattle.store.specs.Beside.{LiesBeside};
-ghost use Rattle.store.specs.Apply.{SparesBeside, IsAtRest, Comes, MayMove, IsReported, FailsShut};
+ghost use Rattle.store.specs.Apply.{SparesBeside, IsReported, RunsNew};
 ghost use Rattle.store.specs.Faults.{IsApplyFault};
 ghost use Rattle.store.specs.Store.{Holds, Keeps, Applies, AppliesShut, Leaves, breaks, database, names_of, IsBroken, IsUnbroken};
 ghost use Rattle.store.specs.declared.fault.Applied.TheVariants.{Repeat};
@@ -28,13 +28,12 @@ use std::mem;
 
 /// Reports a refused change, or the database error if rolling back shut the connection.
 fn refuse<S: Alter>(conn: &mut Connection<S>, at: usize, why: Refusal) -> StoreFault
-    requires { conn.old.in_transaction ≡ false }
-    ensures autocommit { conn.new.in_transaction ≡ false }
     ensures reported { HasCleanDisk (state S.Store conn.new)
         → IsReported at why (state S.Store conn.old) (state S.Store conn.new) result }
     ensures survives { Survives (state S.Store conn.old) (state S.Store conn.new) (λ _. ⊥) }
     ensures other { result ≢ Memory }
     ensures fault { IsApplyFault result }
+    ensures autocommit { conn.old.in_transaction ≡ false → conn.new.in_transaction ≡ false }
 {
     if let Err(error) = check_open(conn) {
         return StoreFault::Database(error);
@@ -56,21 +55,8 @@ fn apply_new<S: Alter>(
     requires autocommit { conn.old.in_transaction ≡ false }
     requires of { reserved.1 ≡ id delivery.now.gtid }
     requires new { set.contains reserved.0 reserved.1 ≡ false }
-    ensures autocommit { conn.new.in_transaction ≡ false }
-    ensures comes { HasCleanDisk (state S.Store conn.new) → (content : Content)
-        → IsAtRest (state S.Store conn.old) filter.now content → reserved.0 ≡ content.executed
-        → Comes filter.now content (delivery_value delivery.now) (state S.Store conn.old)
+    ensures { RunsNew filter.now (delivery_value delivery.now) reserved.0 (state S.Store conn.old)
         (state S.Store conn.new) result.0 result.1 }
-    ensures crash { (content : Content) → IsAtRest (state S.Store conn.old) filter.now content
-        → reserved.0 ≡ content.executed → Survives (state S.Store conn.old) (state S.Store conn.new)
-        (MayMove filter.now content (delivery_value delivery.now) (state S.Store conn.old).now
-        result.1) }
-    ensures lives { Survives (state S.Store conn.old) (state S.Store conn.new) (λ _. Unit {0}) }
-    ensures shut { HasCleanDisk (state S.Store conn.new)
-        → (state S.Store conn.old).is_open ≡ false
-        → FailsShut (state S.Store conn.new) reserved.0 result.0 result.1 }
-    ensures other { result.1 ≢ Err Memory }
-    ensures fault { IfErr result.1 IsApplyFault }
 {
     match run(alloc, conn, filter, delivery, &reserved.beside()) {
         Ok(None) => (reserved.insert(), Ok(Applied::Done)),

@@ -1,12 +1,12 @@
 //! The changes of a transaction of the source, as one transaction of the database.
 
-ghost use Rattle.std.specs.Prelude.{◌≡◌, true, false, is_none, IfOk, IfSome, IsTrue, OnOk, Ok, None};
+ghost use Rattle.std.specs.Prelude.{◌≡◌, true, false, is_none, IfOk, IfSome, OnOk, Ok, None};
 ghost use Rattle.sqlite.specs.State.{HasCleanDisk, IsUnchanged, Survives};
 ghost use Rattle.sqlite.specs.Held.{state};
 ghost use Rattle.gather.specs.View.{delivery_value};
 ghost use Rattle.gtid.specs.Span.{IsLawfulSpan};
 ghost use Rattle.store.specs.State.{Content};
-ghost use Rattle.store.specs.Inside.{IsWorking, DoesIn, WasOpen, Stays};
+ghost use Rattle.store.specs.Inside.{DoesIn, WasOpen, Stays, Within};
 ghost use Rattle.store.specs.Apply.{Fills, IsNew, IsRun, Rests};
 ghost use Rattle.store.specs.AnyOrder.{AreInserts};
 
@@ -28,12 +28,9 @@ fn make_changes<S: Alter>(
     sorted: Option<&SortedInserts<'_>>,
 ) -> Result<Option<(usize, Refusal)>, Error>
     requires { IfSome sorted (λ s. AreInserts filter.now changes.now s.now) }
-    ensures same_reference { tx.new.conn.ghost_name ≡ tx.old.conn.ghost_name }
-    ensures does { HasCleanDisk (state S.Store tx.new.conn.now)
-        → IsWorking (state S.Store tx.old.conn.now)
-        → IfOk result (DoesIn (is_none sorted.entry) filter.now changes.now
-        (state S.Store tx.old.conn.now) (state S.Store tx.new.conn.now)) }
-    ensures stays { Stays (state S.Store tx.old.conn.now) (state S.Store tx.new.conn.now) }
+    ensures does { Within S.Store tx.old.conn tx.new.conn (λ old new.
+        IfOk result (DoesIn (is_none sorted.entry) filter.now changes.now old new)) }
+    ensures stays { Stays S.Store tx.old.conn tx.new.conn result }
 {
     let Some(sorted) = sorted else {
         return make_all(tx, filter, changes);
@@ -55,15 +52,12 @@ fn fill<S: Alter>(
     requires sorted { IfSome sorted (λ s. AreInserts filter.now delivery.now.changes s.now) }
     requires below { IfSome beside.now.below IsLawfulSpan }
     requires above { IfSome beside.now.above IsLawfulSpan }
-    ensures same_reference { tx.new.conn.ghost_name ≡ tx.old.conn.ghost_name }
-    ensures fills { HasCleanDisk (state S.Store tx.new.conn.now)
-        → IsWorking (state S.Store tx.old.conn.now)
-        → (content : Content)
-        → IsNew (state S.Store tx.old.conn.now).now filter.now content
-        (delivery_value delivery.now) beside.now
+    ensures fills { Within S.Store tx.old.conn tx.new.conn (λ old new.
+        (content : Content)
+        → IsNew old.now filter.now content (delivery_value delivery.now) beside.now
         → IfOk result (Fills (is_none sorted.entry) filter.now content (delivery_value delivery.now)
-        (state S.Store tx.old.conn.now) (state S.Store tx.new.conn.now)) }
-    ensures stays { Stays (state S.Store tx.old.conn.now) (state S.Store tx.new.conn.now) }
+        old new)) }
+    ensures stays { Stays S.Store tx.old.conn tx.new.conn result }
 {
     if let Some(refused) = make_changes(tx, filter, &delivery.changes, sorted)? {
         return Ok(Some(refused));
@@ -84,8 +78,7 @@ fn run_once<S: Alter>(
     requires sorted { IfSome sorted (λ s. AreInserts filter.now delivery.now.changes s.now) }
     requires below { IfSome beside.now.below IsLawfulSpan }
     requires above { IfSome beside.now.above IsLawfulSpan }
-    ensures autocommit { conn.new.in_transaction ≡ false }
-    ensures ran { IsRun (is_none sorted.entry) filter.now (delivery_value delivery.now) beside.now
+    ensures { IsRun (is_none sorted.entry) filter.now (delivery_value delivery.now) beside.now
         (state S.Store conn.old) (state S.Store conn.new) result }
 {
     let mut tx = conn.transaction();
@@ -98,8 +91,6 @@ fn run_once<S: Alter>(
 
 /// Fails if the connection is not open, as it may be after a roll back.
 pub(crate) fn check_open<S: Alter>(conn: &mut Connection<S>) -> Result<(), Error>
-    requires { conn.old.in_transaction ≡ false }
-    ensures autocommit { conn.new.in_transaction ≡ false }
     ensures same { HasCleanDisk (state S.Store conn.new)
         → OnOk result (IsUnchanged (state S.Store conn.old) (state S.Store conn.new)) }
     ensures rests { HasCleanDisk (state S.Store conn.new)
@@ -108,6 +99,7 @@ pub(crate) fn check_open<S: Alter>(conn: &mut Connection<S>) -> Result<(), Error
     ensures opened { HasCleanDisk (state S.Store conn.new)
         → WasOpen (state S.Store conn.old) (state S.Store conn.new) }
     ensures survives { Survives (state S.Store conn.old) (state S.Store conn.new) (λ _. ⊥) }
+    ensures autocommit { conn.old.in_transaction ≡ false → conn.new.in_transaction ≡ false }
 {
     if let Err(error) = conn.prepare("SELECT n FROM held") {
         return Err(error);
@@ -129,8 +121,7 @@ pub(crate) fn run<S: Alter>(
     requires autocommit { conn.old.in_transaction ≡ false }
     requires below { IfSome beside.now.below IsLawfulSpan }
     requires above { IfSome beside.now.above IsLawfulSpan }
-    ensures autocommit { conn.new.in_transaction ≡ false }
-    ensures ran { IsRun true filter.now (delivery_value delivery.now) beside.now
+    ensures { IsRun true filter.now (delivery_value delivery.now) beside.now
         (state S.Store conn.old) (state S.Store conn.new) result }
 {
     let Some(sorted) = sorted_inserts(alloc, filter, &delivery.changes) else {

@@ -1,13 +1,11 @@
 //! Transactions that only add rows to one table, whose rows are inserted in the order of their keys.
 
-ghost use Rattle.std.specs.Prelude.{◌≡◌, true, false, IsTrue, IfOk, IfSome, map, []};
+ghost use Rattle.std.specs.Prelude.{true, false, IsTrue, IfOk, IfSome, map, []};
 ghost use Rattle.std.specs.List.{All};
-ghost use Rattle.sqlite.specs.State.{HasCleanDisk};
-ghost use Rattle.sqlite.specs.Held.{state};
 ghost use Rattle.gather.specs.Image.{IsSomeImage};
 ghost use Rattle.gather.specs.View.{change_value};
 ghost use Rattle.store.specs.Rows.{key_of};
-ghost use Rattle.store.specs.Inside.{IsWorking, Adds, Stays};
+ghost use Rattle.store.specs.Inside.{Adds, Stays, Within};
 ghost use Rattle.store.specs.AnyOrder.{AddsRow, AddsRows, AreInserts};
 
 use crate::row_change::add;
@@ -104,13 +102,10 @@ fn insert_each<S: Alter>(
     images: &[&[u8]],
 ) -> Result<bool, Error>
     requires { All (λ r. IsSomeImage r.now) images.now }
-    ensures same_reference { tx.new.conn.ghost_name ≡ tx.old.conn.ghost_name }
-    ensures adds { HasCleanDisk (state S.Store tx.new.conn.now)
-        → IsWorking (state S.Store tx.old.conn.now)
-        → IfOk result (λ all. IsTrue all → Adds (map
-        (λ r. key_of schema.now table.now r.now) images.now) (state S.Store tx.old.conn.now)
-        (state S.Store tx.new.conn.now)) }
-    ensures stays { Stays (state S.Store tx.old.conn.now) (state S.Store tx.new.conn.now) }
+    ensures adds { Within S.Store tx.old.conn tx.new.conn (λ old new.
+        IfOk result (λ all. IsTrue all → Adds (map (λ r. key_of schema.now table.now r.now)
+        images.now) old new)) }
+    ensures stays { Stays S.Store tx.old.conn tx.new.conn result }
 {
     for image in images {
         let row = RowKey {
@@ -134,13 +129,10 @@ pub(crate) fn insert_all<S: Alter>(
     images: &[&[u8]],
 ) -> Result<bool, Error>
     requires { All (λ r. IsSomeImage r.now) images.now }
-    ensures same_reference { tx.new.conn.ghost_name ≡ tx.old.conn.ghost_name }
-    ensures adds { HasCleanDisk (state S.Store tx.new.conn.now)
-        → IsWorking (state S.Store tx.old.conn.now)
-        → IfOk result (λ all. IsTrue all → Adds (map
-        (λ r. key_of schema.now table.now r.now) images.now) (state S.Store tx.old.conn.now)
-        (state S.Store tx.new.conn.now)) }
-    ensures stays { Stays (state S.Store tx.old.conn.now) (state S.Store tx.new.conn.now) }
+    ensures adds { Within S.Store tx.old.conn tx.new.conn (λ old new.
+        IfOk result (λ all. IsTrue all → Adds (map (λ r. key_of schema.now table.now r.now)
+        images.now) old new)) }
+    ensures stays { Stays S.Store tx.old.conn tx.new.conn result }
 {
     let mut done = 0;
     for some in images.chunks(PER_STATEMENT) {

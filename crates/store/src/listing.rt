@@ -1,7 +1,7 @@
 //! Listing the rows of a store in order.
 
 ghost use Rattle.std.specs.Prelude.{◌≡◌, ℕ, pos, false, IsTrue, None, Ok, Err, Result, IfErr, MatchOption, [], drop};
-ghost use Rattle.sqlite.specs.State.{HasCleanDisk, Survives};
+ghost use Rattle.sqlite.specs.State.{HasCleanDisk};
 ghost use Rattle.sqlite.specs.Held.{state};
 ghost use Rattle.sqlite.specs.Given.{HasGiven};
 ghost use Rattle.gather.specs.Image.{HasImage};
@@ -9,11 +9,11 @@ ghost use Rattle.sqlite_value.specs.Order.{column};
 ghost use Rattle.sqlite_value.specs.declared.value.Value.TheVariants.{Int};
 ghost use Rattle.store.specs.State.{Content};
 ghost use Rattle.binlog.specs.Filter.{Names};
-ghost use Rattle.store.specs.Layout.{IsLaidOut};
 ghost use Rattle.store.specs.Rows.{Key, key_in};
 ghost use Rattle.store.specs.Apply.{IsAtRest, SparesBeside};
 ghost use Rattle.store.specs.Store.{Holds, Keeps, AreOf, database, names_of, IsBroken};
-ghost use Rattle.store.specs.Listing.{Entry, entry_of, shown_entry, HasKey, Gives, Handed, Hands, KeepsListed, Lists, ListsShut, IsShut, IsListFault, listed_text};
+ghost use Rattle.store.specs.Load.{ReadsOn};
+ghost use Rattle.store.specs.Listing.{ListsHeld, Entry, entry_of, shown_entry, HasKey, Gives, Handed, Hands, KeepsListed, Lists, ListsShut, IsListFault, listed_text};
 ghost use Rattle.store.specs.declared.fault.StoreFault.TheVariants.{Broken};
 
 use crate::fault::StoreFault;
@@ -128,16 +128,12 @@ fn hand_all<S: Alter, V: Visitor>(
     rows: &mut Rows<'_, S>,
     visitor: &mut V,
 ) -> Result<(), ListError<V::Error>>
-    ensures same_reference { rows.new.conn.ghost_name ≡ rows.old.conn.ghost_name }
-    ensures autocommit { rows.old.conn.now.in_transaction ≡ false
-        → rows.new.conn.now.in_transaction ≡ false }
+    ensures reads { ReadsOn S.Store rows.old.conn rows.new.conn }
     ensures hands { HasCleanDisk (state S.Store rows.new.conn.now)
         → HasGiven S.Store listed_text [] rows.old.conn.now [] → (names : Names) (content : Content)
         → IsAtRest (state S.Store rows.old.conn.now) names content
         → Hands V.row_gives content.rows visitor.old visitor.new result
         × KeepsListed (state S.Store rows.old.conn.now) (state S.Store rows.new.conn.now) result }
-    ensures survives { Survives (state S.Store rows.old.conn.now) (state S.Store rows.new.conn.now)
-        (λ _. ⊥) }
     ensures fault { IfErr result IsListFault }
 {
     // A `for`, since the prover asks that each loop ends.
@@ -159,18 +155,8 @@ fn list_held<S: Alter, V: Visitor>(
     conn: &mut Connection<S>,
     visitor: &mut V,
 ) -> Result<(), ListError<V::Error>>
-    requires { conn.old.in_transaction ≡ false }
-    ensures autocommit { conn.new.in_transaction ≡ false }
-    ensures hands { HasCleanDisk (state S.Store conn.new) → (names : Names) (content : Content)
-        → IsAtRest (state S.Store conn.old) names content
-        → Hands V.row_gives content.rows visitor.old visitor.new result
-        × KeepsListed (state S.Store conn.old) (state S.Store conn.new) result }
-    ensures survives { IsLaidOut (state S.Store conn.old).now.schema
-        → Survives (state S.Store conn.old) (state S.Store conn.new) (λ _. ⊥) }
-    ensures clean { HasCleanDisk (state S.Store conn.new) → HasCleanDisk (state S.Store conn.old) }
-    ensures shut { HasCleanDisk (state S.Store conn.new) → (state S.Store conn.old).is_open ≡ false
-        → IsShut (state S.Store conn.new) visitor.old visitor.new result }
-    ensures fault { IfErr result IsListFault }
+    ensures { ListsHeld V.row_gives (state S.Store conn.old) (state S.Store conn.new)
+        visitor.old visitor.new result }
 {
     // For the prover: what the connection shows is a database. The call does nothing at run time.
     conn.schema();

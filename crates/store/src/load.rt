@@ -1,10 +1,10 @@
 //! Reading the tables of a database that is opened.
 
-ghost use Rattle.std.specs.Prelude.{◌≡◌, false, pos, IfErr};
+ghost use Rattle.std.specs.Prelude.{pos};
 ghost use Rattle.sqlite.specs.Held.{state};
 ghost use Rattle.store.specs.Layout.{IsLaidOut, IsFirstLaidOut};
 ghost use Rattle.store.specs.Rows.{meta_rows, KeepsRules, KeepsFirstRules};
-ghost use Rattle.store.specs.Load.{StatesLayout, LoadsAll, IsLoadFault, IsLoaded, IsFirstLoaded};
+ghost use Rattle.store.specs.Load.{StatesLayout, LoadsAll, IsLoaded, IsFirstLoaded};
 
 use crate::fault::StoreFault;
 use crate::table::executed::load_executed;
@@ -26,14 +26,11 @@ pub(crate) struct Loaded {
 /// What the rows of a database of layout 2 stand for, whose `meta` was read before. `Damaged` if they break its rules;
 /// the other errors are `Database` and `Memory`.
 pub(crate) fn load<S: Alter>(alloc: Global, conn: &mut Connection<S>) -> Result<Loaded, StoreFault>
-    requires { conn.old.in_transaction ≡ false }
-    ensures autocommit { conn.new.in_transaction ≡ false }
-    ensures reads { LoadsAll (IsLaidOut (state S.Store conn.old).now.schema)
+    ensures { LoadsAll (IsLaidOut (state S.Store conn.old).now.schema)
         (StatesLayout (pos 2) (meta_rows (state S.Store conn.old).now))
         (state S.Store conn.old) (state S.Store conn.new) result
         (λ l. IsLoaded (state S.Store conn.new) l.executed l.following)
         (KeepsRules (state S.Store conn.old).now) }
-    ensures fault { IfErr result IsLoadFault }
 {
     // For the prover: what the connection shows is a database. The call does nothing at run time.
     conn.schema();
@@ -51,14 +48,11 @@ pub(crate) fn load_first<S: Alter>(
     alloc: Global,
     conn: &mut Connection<S>,
 ) -> Result<GtidSet, StoreFault>
-    requires { conn.old.in_transaction ≡ false }
-    ensures autocommit { conn.new.in_transaction ≡ false }
-    ensures reads { LoadsAll (IsFirstLaidOut (state S.Store conn.old).now.schema)
+    ensures { LoadsAll (IsFirstLaidOut (state S.Store conn.old).now.schema)
         (StatesLayout (pos 1) (meta_rows (state S.Store conn.old).now))
         (state S.Store conn.old) (state S.Store conn.new) result
         (IsFirstLoaded (state S.Store conn.new))
         (KeepsFirstRules (state S.Store conn.old).now) }
-    ensures fault { IfErr result IsLoadFault }
 {
     // For the prover: what the connection shows is a database. The call does nothing at run time.
     conn.schema();

@@ -1,11 +1,12 @@
 //! Making the tables of a new database.
 
 ghost use Rattle.std.specs.Prelude.{◌≡◌, [], false, OnOk, OnErr};
-ghost use Rattle.sqlite.specs.State.{HasCleanDisk, Survives, KeepsCommit};
+ghost use Rattle.sqlite.specs.State.{HasCleanDisk, Survives};
 ghost use Rattle.sqlite.specs.Held.{state};
 ghost use Rattle.store.specs.Beside.{LiesBeside};
 ghost use Rattle.store.specs.Apply.{IsAtRest, Rests};
 ghost use Rattle.store.specs.Open.{nothing, IsBlank, MayStandFor};
+ghost use Rattle.store.specs.Inside.{Stays, TurnsInto};
 ghost use Rattle.store.specs.Making.{new_layout, IsMaking, HasMade};
 
 use crate::table::follow::{add_names, make_follow};
@@ -17,15 +18,9 @@ use sqlite::{Alter, Connection, Error, Transaction};
 
 /// Makes the four tables.
 fn make_tables<S: Alter>(tx: &mut Transaction<'_, S>) -> Result<(), Error>
-    ensures same_reference { tx.new.conn.ghost_name ≡ tx.old.conn.ghost_name }
-    ensures made { HasCleanDisk (state S.Store tx.new.conn.now)
-        → IsMaking [] (state S.Store tx.old.conn.now)
-        → OnOk result (IsMaking new_layout (state S.Store tx.new.conn.now)) }
-    ensures kept { HasCleanDisk (state S.Store tx.new.conn.now)
-        → IsMaking [] (state S.Store tx.old.conn.now)
-        → KeepsCommit (state S.Store tx.old.conn.now) (state S.Store tx.new.conn.now) }
-    ensures survives { Survives (state S.Store tx.old.conn.now) (state S.Store tx.new.conn.now)
-        (λ _. ⊥) }
+    ensures made { TurnsInto S.Store tx.old.conn tx.new.conn result
+        (IsMaking []) (IsMaking new_layout) }
+    ensures stays { Stays S.Store tx.old.conn tx.new.conn result }
 {
     make_meta(tx)?;
     make_held(tx)?;
@@ -36,15 +31,9 @@ fn make_tables<S: Alter>(tx: &mut Transaction<'_, S>) -> Result<(), Error>
 
 /// Makes the tables and their first rows.
 fn fill<S: Alter>(tx: &mut Transaction<'_, S>, filter: &Follow) -> Result<(), Error>
-    ensures same_reference { tx.new.conn.ghost_name ≡ tx.old.conn.ghost_name }
-    ensures made { HasCleanDisk (state S.Store tx.new.conn.now)
-        → IsMaking [] (state S.Store tx.old.conn.now)
-        → OnOk result (HasMade (state S.Store tx.new.conn.now) filter.now nothing) }
-    ensures kept { HasCleanDisk (state S.Store tx.new.conn.now)
-        → IsMaking [] (state S.Store tx.old.conn.now)
-        → KeepsCommit (state S.Store tx.old.conn.now) (state S.Store tx.new.conn.now) }
-    ensures survives { Survives (state S.Store tx.old.conn.now) (state S.Store tx.new.conn.now)
-        (λ _. ⊥) }
+    ensures made { TurnsInto S.Store tx.old.conn tx.new.conn result
+        (IsMaking []) (λ s. HasMade s filter.now nothing) }
+    ensures stays { Stays S.Store tx.old.conn tx.new.conn result }
 {
     make_tables(tx)?;
     set_layout(tx)?;

@@ -1,10 +1,10 @@
 //! Migration from layout 1 to layout 2.
 
 ghost use Rattle.std.specs.Prelude.{◌≡◌, false, pos, OnOk, OnErr};
-ghost use Rattle.sqlite.specs.State.{HasCleanDisk, Survives, KeepsCommit};
+ghost use Rattle.sqlite.specs.State.{HasCleanDisk, Survives};
 ghost use Rattle.sqlite.specs.Held.{state};
 ghost use Rattle.store.specs.State.{Content};
-ghost use Rattle.store.specs.Inside.{IsWorking};
+ghost use Rattle.store.specs.Inside.{Stays, TurnsInto};
 ghost use Rattle.store.specs.Beside.{LiesBeside};
 ghost use Rattle.store.specs.Apply.{IsAtRest, Rests};
 ghost use Rattle.store.specs.Open.{all, IsFirstAtRest, MayMigrate};
@@ -20,15 +20,9 @@ use sqlite::{Alter, Connection, Error, Transaction};
 
 /// Changes the tables to those of layout 2, without spans.
 fn change_tables<S: Alter>(tx: &mut Transaction<'_, S>) -> Result<(), Error>
-    ensures same_reference { tx.new.conn.ghost_name ≡ tx.old.conn.ghost_name }
-    ensures migrated { HasCleanDisk (state S.Store tx.new.conn.now) → (content : Content)
-        → IsFirstInside content (state S.Store tx.old.conn.now)
-        → OnOk result (IsMigrating HasBare (pos 2) content (state S.Store tx.new.conn.now)) }
-    ensures kept { HasCleanDisk (state S.Store tx.new.conn.now) → (content : Content)
-        → IsFirstInside content (state S.Store tx.old.conn.now)
-        → KeepsCommit (state S.Store tx.old.conn.now) (state S.Store tx.new.conn.now) }
-    ensures survives { Survives (state S.Store tx.old.conn.now) (state S.Store tx.new.conn.now)
-        (λ _. ⊥) }
+    ensures migrated { (content : Content) → TurnsInto S.Store tx.old.conn tx.new.conn result
+        (IsFirstInside content) (IsMigrating HasBare (pos 2) content) }
+    ensures stays { Stays S.Store tx.old.conn tx.new.conn result }
 {
     drop_executed(tx)?;
     make_spans(tx)?;
@@ -39,18 +33,10 @@ fn change_tables<S: Alter>(tx: &mut Transaction<'_, S>) -> Result<(), Error>
 
 /// Changes the tables to those of layout 2, with the spans of the set.
 fn convert<S: Alter>(tx: &mut Transaction<'_, S>, executed: &GtidSet) -> Result<(), Error>
-    ensures same_reference { tx.new.conn.ghost_name ≡ tx.old.conn.ghost_name }
     ensures made { HasCleanDisk (state S.Store tx.new.conn.now) → (content : Content)
         → IsFirstInside content (state S.Store tx.old.conn.now) → executed.now ≡ content.executed
         → OnOk result (HasMade (state S.Store tx.new.conn.now) all content) }
-    ensures working { HasCleanDisk (state S.Store tx.new.conn.now) → (content : Content)
-        → IsFirstInside content (state S.Store tx.old.conn.now)
-        → OnOk result (IsWorking (state S.Store tx.new.conn.now)) }
-    ensures kept { HasCleanDisk (state S.Store tx.new.conn.now) → (content : Content)
-        → IsFirstInside content (state S.Store tx.old.conn.now)
-        → KeepsCommit (state S.Store tx.old.conn.now) (state S.Store tx.new.conn.now) }
-    ensures survives { Survives (state S.Store tx.old.conn.now) (state S.Store tx.new.conn.now)
-        (λ _. ⊥) }
+    ensures stays { Stays S.Store tx.old.conn tx.new.conn result }
 {
     change_tables(tx)?;
     add_all(tx, executed.spans())

@@ -1,18 +1,18 @@
 //! Opening a database.
 
-ghost use Rattle.std.specs.Prelude.{◌≡◌, Option, true, false, pos, None, Some, Err, IfOk, IfErr, IsTrue, MatchResult};
-ghost use Rattle.sqlite.specs.State.{HasCleanDisk, IsLive, Survives};
+ghost use Rattle.std.specs.Prelude.{◌≡◌, Option, true, false, None, Some, Err, IfOk, IfErr, IsTrue, MatchResult};
+ghost use Rattle.sqlite.specs.State.{IsLive};
 ghost use Rattle.sqlite.specs.Held.{state};
 ghost use Rattle.store.specs.declared.fault.StoreFault.TheVariants.{Memory, Damaged};
-ghost use Rattle.store.specs.Layout.{IsVacant, IsFirstLaidOut, IsLaidOut};
+ghost use Rattle.store.specs.Layout.{IsVacant};
 ghost use Rattle.sqlite.specs.Effect.{Database as Stored};
 ghost use Rattle.store.specs.Judge.{IsMeta};
 ghost use Rattle.store.specs.Rows.{meta_rows};
 ghost use Rattle.store.specs.declared.layout.KnownLayout.TheVariants.{First, Second};
-ghost use Rattle.store.specs.Load.{HasLayout, Enters};
+ghost use Rattle.store.specs.Load.{HasLayout, Enters, EntersWhere};
 ghost use Rattle.binlog.specs.Filter.{Names};
 ghost use Rattle.store.specs.Faults.{IsOpenFault};
-ghost use Rattle.store.specs.Entering.{IsReady, IsKnown, IsWhy, IsEntered, IsTurned, IsWanted, MayEnter, wanted_of, names_for, tables_of, has_any, has_first, has_second};
+ghost use Rattle.store.specs.Entering.{IsKnown, IsWhy, IsWanted, wanted_of, names_for, tables_of, has_any, has_first, has_second};
 ghost use Rattle.store.specs.Opening.{IsOpenedFor};
 
 use crate::fault::StoreFault;
@@ -73,21 +73,8 @@ fn enter_new<S: Alter>(
     only: Option<&Follow>,
 ) -> Result<Loaded, StoreFault>
     requires { conn.old.in_transaction ≡ false }
-    ensures autocommit { conn.new.in_transaction ≡ false }
-    ensures entered { HasCleanDisk (state S.Store conn.new) → IsReady (state S.Store conn.old)
-        → IsVacant (state S.Store conn.old).now.schema
-        → IfOk result (λ l. IsEntered (wanted_of only.entry) (state S.Store conn.old)
-        (state S.Store conn.new) l.executed l.following) }
-    ensures turned { HasCleanDisk (state S.Store conn.new) → IsReady (state S.Store conn.old)
-        → IsVacant (state S.Store conn.old).now.schema
-        → IfErr result (IsTurned (wanted_of only.entry) (state S.Store conn.old)
-        (state S.Store conn.new)) }
-    ensures crash { IsReady (state S.Store conn.old)
-        → IsVacant (state S.Store conn.old).now.schema
-        → Survives (state S.Store conn.old) (state S.Store conn.new)
-        (MayEnter (names_for (wanted_of only.entry)) (state S.Store conn.old)) }
-    ensures fault { IfErr result (IsOpenFault (wanted_of only.entry)) }
-    ensures clean { HasCleanDisk (state S.Store conn.new) → HasCleanDisk (state S.Store conn.old) }
+    ensures { EntersWhere (IsVacant (state S.Store conn.old).now.schema)
+        (wanted_of only.entry) (state S.Store conn.old) (state S.Store conn.new) result }
 {
     let following = names_for(alloc, only)?;
     make(conn, &following)?;
@@ -104,10 +91,8 @@ fn enter_first<S: Alter>(
     only: Option<&Follow>,
 ) -> Result<Loaded, StoreFault>
     requires { conn.old.in_transaction ≡ false }
-    ensures autocommit { conn.new.in_transaction ≡ false }
-    ensures enters { Enters (wanted_of only.entry) First (state S.Store conn.old)
+    ensures { Enters (wanted_of only.entry) First (state S.Store conn.old)
         (state S.Store conn.new) result }
-    ensures fault { IfErr result (IsOpenFault (wanted_of only.entry)) }
 {
     let executed = load_first(alloc, conn)?;
     let following = Follow::all(alloc);
@@ -130,10 +115,8 @@ fn enter_second<S: Alter>(
     only: Option<&Follow>,
 ) -> Result<Loaded, StoreFault>
     requires { conn.old.in_transaction ≡ false }
-    ensures autocommit { conn.new.in_transaction ≡ false }
-    ensures enters { Enters (wanted_of only.entry) Second (state S.Store conn.old)
+    ensures { Enters (wanted_of only.entry) Second (state S.Store conn.old)
         (state S.Store conn.new) result }
-    ensures fault { IfErr result (IsOpenFault (wanted_of only.entry)) }
 {
     let loaded = load(alloc, conn)?;
     if differs(&loaded.following, only) {
@@ -196,21 +179,9 @@ fn enter_old<S: Alter>(
     only: Option<&Follow>,
 ) -> Result<Loaded, StoreFault>
     requires { conn.old.in_transaction ≡ false }
-    ensures autocommit { conn.new.in_transaction ≡ false }
-    ensures entered { HasCleanDisk (state S.Store conn.new) → IsReady (state S.Store conn.old)
-        → tables ≡ tables_of (state S.Store conn.old).now.schema → tables.meta ≡ true
-        → IfOk result (λ l. IsEntered (wanted_of only.entry) (state S.Store conn.old)
-        (state S.Store conn.new) l.executed l.following) }
-    ensures turned { HasCleanDisk (state S.Store conn.new) → IsReady (state S.Store conn.old)
-        → tables ≡ tables_of (state S.Store conn.old).now.schema → tables.meta ≡ true
-        → IfErr result (IsTurned (wanted_of only.entry) (state S.Store conn.old)
-        (state S.Store conn.new)) }
-    ensures crash { IsReady (state S.Store conn.old)
-        → tables ≡ tables_of (state S.Store conn.old).now.schema → tables.meta ≡ true
-        → Survives (state S.Store conn.old) (state S.Store conn.new)
-        (MayEnter (names_for (wanted_of only.entry)) (state S.Store conn.old)) }
-    ensures fault { IfErr result (IsOpenFault (wanted_of only.entry)) }
-    ensures clean { HasCleanDisk (state S.Store conn.new) → HasCleanDisk (state S.Store conn.old) }
+    ensures { EntersWhere ((tables ≡ tables_of (state S.Store conn.old).now.schema)
+        × (tables.meta ≡ true))
+        (wanted_of only.entry) (state S.Store conn.old) (state S.Store conn.new) result }
 {
     let meta = read_meta(conn)?;
     match layout_of(tables, meta)? {
@@ -226,22 +197,12 @@ fn enter<S: Alter>(
     only: Option<&Follow>,
 ) -> Result<Loaded, StoreFault>
     requires { conn.old.in_transaction ≡ false }
-    ensures autocommit { conn.new.in_transaction ≡ false }
-    ensures entered { HasCleanDisk (state S.Store conn.new) → IsReady (state S.Store conn.old)
-        → IfOk result (λ l. IsEntered (wanted_of only.entry) (state S.Store conn.old)
-        (state S.Store conn.new) l.executed l.following) }
-    ensures turned { HasCleanDisk (state S.Store conn.new) → IsReady (state S.Store conn.old)
-        → IfErr result (IsTurned (wanted_of only.entry) (state S.Store conn.old)
-        (state S.Store conn.new)) }
     ensures headless { (tables_of (state S.Store conn.old).now.schema).meta ≡ false
         → has_any (tables_of (state S.Store conn.old).now.schema) ≡ true
         → (result ≡ Err Damaged) × (conn.new ≡ conn.old) }
-    ensures crash { IsReady (state S.Store conn.old)
-        → Survives (state S.Store conn.old) (state S.Store conn.new)
-        (MayEnter (names_for (wanted_of only.entry)) (state S.Store conn.old)) }
     ensures live { IsLive (state S.Store conn.old) }
-    ensures fault { IfErr result (IsOpenFault (wanted_of only.entry)) }
-    ensures clean { HasCleanDisk (state S.Store conn.new) → HasCleanDisk (state S.Store conn.old) }
+    ensures enters { EntersWhere (Unit {0})
+        (wanted_of only.entry) (state S.Store conn.old) (state S.Store conn.new) result }
 {
     let tables = tables_of(conn.schema());
     if !has_any(tables) {

@@ -1,14 +1,12 @@
 //! Row changes, inside a transaction.
 
 ghost use Rattle.std.specs.Prelude.{◌≡◌, ◌≢◌, IfOk};
-ghost use Rattle.sqlite.specs.State.{HasCleanDisk};
-ghost use Rattle.sqlite.specs.Held.{state};
 ghost use Rattle.gather.specs.Image.{IsSomeImage};
 ghost use Rattle.store.specs.Rows.{key_in, held_rows, count};
 ghost use Rattle.gather.specs.Transaction.{insert, delete};
 ghost use Rattle.gather.specs.View.{change_value};
 ghost use Rattle.store.specs.Changes.{is_admitted};
-ghost use Rattle.store.specs.Inside.{IsWorking, added, removed, Counted, Makes, Does, DoesAll, Stays};
+ghost use Rattle.store.specs.Inside.{added, removed, Counted, Makes, Does, DoesAll, Stays, Within};
 
 use crate::table::held::{RowKey, delete, insert, read, update};
 use crate::table::row::MOST;
@@ -27,12 +25,9 @@ pub enum Refusal {
 
 /// Adds one more copy of a row that is there.
 fn raise<S: Alter>(tx: &mut Transaction<'_, S>, row: &RowKey<'_>) -> Result<Option<Refusal>, Error>
-    ensures same_reference { tx.new.conn.ghost_name ≡ tx.old.conn.ghost_name }
-    ensures counted { HasCleanDisk (state S.Store tx.new.conn.now)
-        → IsWorking (state S.Store tx.old.conn.now)
-        → IfOk result (Counted (state S.Store tx.old.conn.now) (state S.Store tx.new.conn.now)
-        (added (key_in row.now) (count (held_rows (state S.Store tx.old.conn.now).now)))) }
-    ensures stays { Stays (state S.Store tx.old.conn.now) (state S.Store tx.new.conn.now) }
+    ensures counted { Within S.Store tx.old.conn tx.new.conn (λ old new.
+        IfOk result (Counted old new (added (key_in row.now) (count (held_rows old.now))))) }
+    ensures stays { Stays S.Store tx.old.conn tx.new.conn result }
 {
     let Some(n) = read(tx, row)? else {
         return Err(Error::InvalidQuery);
@@ -49,12 +44,10 @@ pub(crate) fn add<S: Alter>(
     tx: &mut Transaction<'_, S>,
     row: &RowKey<'_>,
 ) -> Result<Option<Refusal>, Error>
-    ensures same_reference { tx.new.conn.ghost_name ≡ tx.old.conn.ghost_name }
-    ensures counted { HasCleanDisk (state S.Store tx.new.conn.now)
-        → IsWorking (state S.Store tx.old.conn.now) → IsSomeImage row.now.image.now
-        → IfOk result (Counted (state S.Store tx.old.conn.now) (state S.Store tx.new.conn.now)
-        (added (key_in row.now) (count (held_rows (state S.Store tx.old.conn.now).now)))) }
-    ensures stays { Stays (state S.Store tx.old.conn.now) (state S.Store tx.new.conn.now) }
+    ensures counted { Within S.Store tx.old.conn tx.new.conn (λ old new.
+        IsSomeImage row.now.image.now
+        → IfOk result (Counted old new (added (key_in row.now) (count (held_rows old.now))))) }
+    ensures stays { Stays S.Store tx.old.conn tx.new.conn result }
 {
     if insert(tx, row)? {
         return Ok(None);
@@ -64,13 +57,10 @@ pub(crate) fn add<S: Alter>(
 
 /// Removes one of several copies of a row.
 fn lower<S: Alter>(tx: &mut Transaction<'_, S>, row: &RowKey<'_>) -> Result<Option<Refusal>, Error>
-    ensures same_reference { tx.new.conn.ghost_name ≡ tx.old.conn.ghost_name }
-    ensures counted { HasCleanDisk (state S.Store tx.new.conn.now)
-        → IsWorking (state S.Store tx.old.conn.now)
-        → count (held_rows (state S.Store tx.old.conn.now).now) (key_in row.now) ≢ 1
-        → IfOk result (Counted (state S.Store tx.old.conn.now) (state S.Store tx.new.conn.now)
-        (removed (key_in row.now) (count (held_rows (state S.Store tx.old.conn.now).now)))) }
-    ensures stays { Stays (state S.Store tx.old.conn.now) (state S.Store tx.new.conn.now) }
+    ensures counted { Within S.Store tx.old.conn tx.new.conn (λ old new.
+        count (held_rows old.now) (key_in row.now) ≢ 1
+        → IfOk result (Counted old new (removed (key_in row.now) (count (held_rows old.now))))) }
+    ensures stays { Stays S.Store tx.old.conn tx.new.conn result }
 {
     let Some(n) = read(tx, row)? else {
         return Ok(Some(Refusal::NoSuchRow));
@@ -87,12 +77,9 @@ pub(crate) fn remove<S: Alter>(
     tx: &mut Transaction<'_, S>,
     row: &RowKey<'_>,
 ) -> Result<Option<Refusal>, Error>
-    ensures same_reference { tx.new.conn.ghost_name ≡ tx.old.conn.ghost_name }
-    ensures counted { HasCleanDisk (state S.Store tx.new.conn.now)
-        → IsWorking (state S.Store tx.old.conn.now)
-        → IfOk result (Counted (state S.Store tx.old.conn.now) (state S.Store tx.new.conn.now)
-        (removed (key_in row.now) (count (held_rows (state S.Store tx.old.conn.now).now)))) }
-    ensures stays { Stays (state S.Store tx.old.conn.now) (state S.Store tx.new.conn.now) }
+    ensures counted { Within S.Store tx.old.conn tx.new.conn (λ old new.
+        IfOk result (Counted old new (removed (key_in row.now) (count (held_rows old.now))))) }
+    ensures stays { Stays S.Store tx.old.conn tx.new.conn result }
 {
     if delete(tx, row)? {
         return Ok(None);
@@ -106,12 +93,10 @@ fn add_row<S: Alter>(
     table: &TableDef,
     image: &ImageRef<'_>,
 ) -> Result<Option<Refusal>, Error>
-    ensures same_reference { tx.new.conn.ghost_name ≡ tx.old.conn.ghost_name }
-    ensures makes { HasCleanDisk (state S.Store tx.new.conn.now)
-        → IsWorking (state S.Store tx.old.conn.now)
-        → IfOk result (Makes (insert table.now.schema.items table.now.table.items image.now)
-        (state S.Store tx.old.conn.now) (state S.Store tx.new.conn.now)) }
-    ensures stays { Stays (state S.Store tx.old.conn.now) (state S.Store tx.new.conn.now) }
+    ensures makes { Within S.Store tx.old.conn tx.new.conn (λ old new.
+        IfOk result (Makes (insert table.now.schema.items table.now.table.items image.now)
+        old new)) }
+    ensures stays { Stays S.Store tx.old.conn tx.new.conn result }
 {
     add(tx, &RowKey::of(table, image))
 }
@@ -122,12 +107,10 @@ fn remove_row<S: Alter>(
     table: &TableDef,
     image: &ImageRef<'_>,
 ) -> Result<Option<Refusal>, Error>
-    ensures same_reference { tx.new.conn.ghost_name ≡ tx.old.conn.ghost_name }
-    ensures makes { HasCleanDisk (state S.Store tx.new.conn.now)
-        → IsWorking (state S.Store tx.old.conn.now)
-        → IfOk result (Makes (delete table.now.schema.items table.now.table.items image.now)
-        (state S.Store tx.old.conn.now) (state S.Store tx.new.conn.now)) }
-    ensures stays { Stays (state S.Store tx.old.conn.now) (state S.Store tx.new.conn.now) }
+    ensures makes { Within S.Store tx.old.conn tx.new.conn (λ old new.
+        IfOk result (Makes (delete table.now.schema.items table.now.table.items image.now)
+        old new)) }
+    ensures stays { Stays S.Store tx.old.conn tx.new.conn result }
 {
     remove(tx, &RowKey::of(table, image))
 }
@@ -137,12 +120,9 @@ fn make<S: Alter>(
     tx: &mut Transaction<'_, S>,
     change: &Change<'_>,
 ) -> Result<Option<Refusal>, Error>
-    ensures same_reference { tx.new.conn.ghost_name ≡ tx.old.conn.ghost_name }
-    ensures makes { HasCleanDisk (state S.Store tx.new.conn.now)
-        → IsWorking (state S.Store tx.old.conn.now)
-        → IfOk result (Makes (change_value change.now) (state S.Store tx.old.conn.now)
-        (state S.Store tx.new.conn.now)) }
-    ensures stays { Stays (state S.Store tx.old.conn.now) (state S.Store tx.new.conn.now) }
+    ensures makes { Within S.Store tx.old.conn tx.new.conn (λ old new.
+        IfOk result (Makes (change_value change.now) old new)) }
+    ensures stays { Stays S.Store tx.old.conn tx.new.conn result }
 {
     match change {
         Change::Insert { table, after } => add_row(tx, table, after),
@@ -174,12 +154,9 @@ fn step<S: Alter>(
     filter: &Follow,
     change: &Change<'_>,
 ) -> Result<Option<Refusal>, Error>
-    ensures same_reference { tx.new.conn.ghost_name ≡ tx.old.conn.ghost_name }
-    ensures does { HasCleanDisk (state S.Store tx.new.conn.now)
-        → IsWorking (state S.Store tx.old.conn.now)
-        → IfOk result (Does filter.now (change_value change.now) (state S.Store tx.old.conn.now)
-        (state S.Store tx.new.conn.now)) }
-    ensures stays { Stays (state S.Store tx.old.conn.now) (state S.Store tx.new.conn.now) }
+    ensures does { Within S.Store tx.old.conn tx.new.conn (λ old new.
+        IfOk result (Does filter.now (change_value change.now) old new)) }
+    ensures stays { Stays S.Store tx.old.conn tx.new.conn result }
 {
     if !is_admitted(filter, change) {
         return Ok(None);
@@ -193,12 +170,9 @@ pub(crate) fn make_all<S: Alter>(
     filter: &Follow,
     changes: &Changes,
 ) -> Result<Option<(usize, Refusal)>, Error>
-    ensures same_reference { tx.new.conn.ghost_name ≡ tx.old.conn.ghost_name }
-    ensures does { HasCleanDisk (state S.Store tx.new.conn.now)
-        → IsWorking (state S.Store tx.old.conn.now)
-        → IfOk result (DoesAll filter.now changes.now (state S.Store tx.old.conn.now)
-        (state S.Store tx.new.conn.now)) }
-    ensures stays { Stays (state S.Store tx.old.conn.now) (state S.Store tx.new.conn.now) }
+    ensures does { Within S.Store tx.old.conn tx.new.conn (λ old new.
+        IfOk result (DoesAll filter.now changes.now old new)) }
+    ensures stays { Stays S.Store tx.old.conn tx.new.conn result }
 {
     // For the prover: an index is less than this, so it has a successor.
     let _count = changes.len();

@@ -1,16 +1,16 @@
 //! The table `executed`, which layout 1 has in place of `spans`: a row for each GTID.
 
-ghost use Rattle.std.specs.Prelude.{◌≡◌, ℕ, false, pos, map, IfOk, IfErr, OnOk, None, ◌<◌, MatchOption, MatchResult, []};
+ghost use Rattle.std.specs.Prelude.{◌≡◌, pos, map, IfOk, None, ◌<◌, MatchOption, MatchResult, []};
 ghost use Rattle.std.specs.List.{AllByRecursion};
-ghost use Rattle.sqlite.specs.State.{HasCleanDisk, Survives, KeepsCommit};
 ghost use Rattle.sqlite.specs.Held.{state};
 ghost use Rattle.store.specs.Rows.{IsExecutedRow, id_in};
-ghost use Rattle.store.specs.Load.{ReadsAll, Judges, IsLoadFault, all_executed_text};
+ghost use Rattle.store.specs.Load.{ReadsAll, Judges, all_executed_text};
 ghost use Rattle.gtid.specs.declared.span.Span.{Span};
 ghost use Rattle.sqlite_value.specs.declared.value.Value.TheVariants.{Int};
 ghost use Rattle.store.specs.Faults.{IsFailure};
 ghost use Rattle.store.specs.Judge.{span_of_id};
 ghost use Rattle.store.specs.State.{Content};
+ghost use Rattle.store.specs.Inside.{Stays, TurnsInto};
 ghost use Rattle.store.specs.Migrating.{HasTables, IsFirstInside, IsMigrating};
 ghost use Rattle.std.specs.FinSet as set;
 
@@ -32,12 +32,9 @@ pub(crate) fn load_executed<S: Alter>(
     alloc: Global,
     conn: &mut Connection<S>,
 ) -> Result<GtidSet, StoreFault>
-    requires { conn.old.in_transaction ≡ false }
-    ensures autocommit { conn.new.in_transaction ≡ false }
-    ensures reads { ReadsAll all_executed_text (state S.Store conn.old)
+    ensures { ReadsAll all_executed_text (state S.Store conn.old)
         (state S.Store conn.new) result (λ rows ids. AllByRecursion IsExecutedRow rows
         × (ids ≡ set.from_list (map id_in rows))) (AllByRecursion IsExecutedRow) }
-    ensures fault { IfErr result IsLoadFault }
 {
     let rows = read_all(conn, ALL)?;
     executed_from(alloc, &rows)
@@ -45,9 +42,8 @@ pub(crate) fn load_executed<S: Alter>(
 
 /// The set of the rows of `executed`.
 pub(crate) fn executed_from(alloc: Global, rows: &[Row]) -> Result<GtidSet, StoreFault>
-    ensures judged { Judges result (λ ids. AllByRecursion IsExecutedRow rows.now
+    ensures { Judges result (λ ids. AllByRecursion IsExecutedRow rows.now
         × (ids ≡ set.from_list (map id_in rows.now))) (AllByRecursion IsExecutedRow rows.now) }
-    ensures fault { IfErr result IsLoadFault }
 {
     let Some(spans) = ids_of(alloc, rows)? else {
         return Err(StoreFault::Damaged);
@@ -57,10 +53,9 @@ pub(crate) fn executed_from(alloc: Global, rows: &[Row]) -> Result<GtidSet, Stor
 
 /// The GTIDs of the rows as spans, if all are lawful rows of `executed`.
 pub(crate) fn ids_of(alloc: Global, rows: &[Row]) -> Result<Option<Vec<Span>>, StoreFault>
-    ensures judged { IfOk result (λ o. MatchOption o (¬ AllByRecursion IsExecutedRow rows.now)
+    ensures { MatchResult result (λ o. MatchOption o (¬ AllByRecursion IsExecutedRow rows.now)
         (λ spans. AllByRecursion IsExecutedRow rows.now
-        × (spans.items ≡ map (λ r. span_of_id (id_in r)) rows.now))) }
-    ensures fault { IfErr result IsFailure }
+        × (spans.items ≡ map (λ r. span_of_id (id_in r)) rows.now))) IsFailure }
 {
     let mut spans = Vec::new(alloc);
     for row in rows {
@@ -103,15 +98,9 @@ pub(crate) fn id_of(row: &Row) -> Result<Result<Span, &'static str>, Error>
 }
 
 pub(crate) fn drop_executed<S: Alter>(tx: &mut Transaction<'_, S>) -> Result<usize, Error>
-    ensures same_reference { tx.new.conn.ghost_name ≡ tx.old.conn.ghost_name }
-    ensures migrated { HasCleanDisk (state S.Store tx.new.conn.now) → (content : Content)
-        → IsFirstInside content (state S.Store tx.old.conn.now)
-        → OnOk result (IsMigrating (HasTables []) (pos 1) content (state S.Store tx.new.conn.now)) }
-    ensures kept { HasCleanDisk (state S.Store tx.new.conn.now) → (content : Content)
-        → IsFirstInside content (state S.Store tx.old.conn.now)
-        → KeepsCommit (state S.Store tx.old.conn.now) (state S.Store tx.new.conn.now) }
-    ensures survives { Survives (state S.Store tx.old.conn.now) (state S.Store tx.new.conn.now)
-        (λ _. ⊥) }
+    ensures migrated { (content : Content) → TurnsInto S.Store tx.old.conn tx.new.conn result
+        (IsFirstInside content) (IsMigrating (HasTables []) (pos 1) content) }
+    ensures stays { Stays S.Store tx.old.conn tx.new.conn result }
 {
     tx.execute("DROP TABLE executed", &[])
 }

@@ -1,17 +1,16 @@
 //! The table `held`: the rows of the source, each with the number of its copies.
 
-ghost use Rattle.std.specs.Prelude.{◌≡◌, ◌+◌, ◌<◌, ◌≤◌, ◌^◌, pos, ℕ, true, false, Ok, Err, IsOk, IfOk, IfErr, IfSome, OnOk, IsPermutation, map, filter, [], ◌∷◌, Some, IsTrue, ◌++◌, List, MatchBool, MatchOption};
-ghost use Rattle.sqlite.specs.State.{HasCleanDisk, IsUnchanged, Survives, KeepsCommit, IsLive};
+ghost use Rattle.std.specs.Prelude.{◌≡◌, ◌+◌, ◌<◌, ◌≤◌, ◌^◌, pos, ℕ, true, false, Ok, Err, IsOk, IfOk, IfErr, IfSome, OnOk, IsPermutation, map, filter, [], ◌∷◌, Some, ◌++◌, List, MatchBool, MatchOption, MatchResult};
+ghost use Rattle.sqlite.specs.State.{HasCleanDisk, IsUnchanged, IsLive};
 ghost use Rattle.sqlite.specs.Held.{state};
 ghost use Rattle.sqlite_value.specs.Order.{column, Row as RowValue};
 ghost use Rattle.store.specs.Changes.{most};
 ghost use Rattle.store.specs.Rows.{key_in, key_of, Finds, IsCount, held_rows, count, with_one, without_one, is_at, HasRowids, IsHeldRow};
-ghost use Rattle.store.specs.Inside.{IsWorking, HasCounts, Inserts, Deletes, Stays, WasOpen};
-ghost use Rattle.store.specs.Apply.{Rests};
+ghost use Rattle.store.specs.Inside.{HasCounts, Inserts, Deletes, Stays, Within, TurnsInto};
 ghost use Rattle.store.specs.Making.{with_meta, with_held, IsMaking};
 ghost use Rattle.std.specs.List.{AllByRecursion};
 ghost use Rattle.store.specs.Layout.{IsLaidOut};
-ghost use Rattle.store.specs.Load.{ReadsAll, Rested, Judges, IsLoadFault, all_held_text, HasJudged};
+ghost use Rattle.store.specs.Load.{ReadsAll, Rested, Judges, IsLoadFault, all_held_text, HasJudged, Looks, ReadsOn};
 ghost use Rattle.sqlite.specs.Given.{HasGiven};
 ghost use Rattle.store.specs.Faults.{IsFailure};
 ghost use Rattle.store.specs.Judge.{HasVerdict, HasOrder};
@@ -61,15 +60,9 @@ impl<'a> RowKey<'a> {
 }
 
 pub(crate) fn make_held<S: Alter>(tx: &mut Transaction<'_, S>) -> Result<usize, Error>
-    ensures same_reference { tx.new.conn.ghost_name ≡ tx.old.conn.ghost_name }
-    ensures made { HasCleanDisk (state S.Store tx.new.conn.now)
-        → IsMaking with_meta (state S.Store tx.old.conn.now)
-        → OnOk result (IsMaking with_held (state S.Store tx.new.conn.now)) }
-    ensures kept { HasCleanDisk (state S.Store tx.new.conn.now)
-        → IsMaking with_meta (state S.Store tx.old.conn.now)
-        → KeepsCommit (state S.Store tx.old.conn.now) (state S.Store tx.new.conn.now) }
-    ensures survives { Survives (state S.Store tx.old.conn.now) (state S.Store tx.new.conn.now)
-        (λ _. ⊥) }
+    ensures made { TurnsInto S.Store tx.old.conn tx.new.conn result
+        (IsMaking with_meta) (IsMaking with_held) }
+    ensures stays { Stays S.Store tx.old.conn tx.new.conn result }
 {
     tx.execute(
         "CREATE TABLE held (schema_name BLOB NOT NULL, table_name BLOB NOT NULL, image BLOB NOT NULL, n INTEGER NOT NULL CHECK (n > 0), PRIMARY KEY (schema_name, table_name, image))",
@@ -79,12 +72,9 @@ pub(crate) fn make_held<S: Alter>(tx: &mut Transaction<'_, S>) -> Result<usize, 
 
 /// Checks the rows of `held`, one at a time.
 pub(crate) fn load_held<S: Alter>(conn: &mut Connection<S>) -> Result<(), StoreFault>
-    requires { conn.old.in_transaction ≡ false }
-    ensures autocommit { conn.new.in_transaction ≡ false }
-    ensures reads { ReadsAll all_held_text (state S.Store conn.old) (state S.Store conn.new) result
+    ensures { ReadsAll all_held_text (state S.Store conn.old) (state S.Store conn.new) result
         (λ rows _. AllByRecursion IsHeldRow rows × HasRowids rows)
         (AllByRecursion IsHeldRow) }
-    ensures fault { IfErr result IsLoadFault }
 {
     // For the prover: what the connection shows is a database. The call does nothing at run time.
     conn.schema();
@@ -106,17 +96,13 @@ pub(crate) enum Verdict {
 
 /// The verdict on all rows of a query, which are read one at a time, up to the last one.
 pub(crate) fn judge_rows<S: Alter>(rows: &mut Rows<'_, S>) -> Result<Verdict, StoreFault>
-    ensures same_reference { rows.new.conn.ghost_name ≡ rows.old.conn.ghost_name }
-    ensures autocommit { rows.old.conn.now.in_transaction ≡ false
-        → rows.new.conn.now.in_transaction ≡ false }
+    ensures reads { ReadsOn S.Store rows.old.conn rows.new.conn }
     ensures judged { HasCleanDisk (state S.Store rows.new.conn.now) → (sql : _)
         → HasGiven S.Store sql [] rows.old.conn.now [] → IsLive (state S.Store rows.old.conn.now)
         → IfOk result (HasJudged sql (state S.Store rows.old.conn.now)
         (state S.Store rows.new.conn.now)) }
     ensures rested { HasCleanDisk (state S.Store rows.new.conn.now)
         → Rested (state S.Store rows.old.conn.now) (state S.Store rows.new.conn.now) }
-    ensures survives { Survives (state S.Store rows.old.conn.now) (state S.Store rows.new.conn.now)
-        (λ _. ⊥) }
     ensures fault { IfErr result IsFailure }
 {
     let mut verdict = Verdict::Lawful(None);
@@ -189,9 +175,8 @@ pub(crate) fn answer(verdict: Verdict) -> Result<(), StoreFault>
 
 /// The rule of `held` that a row breaks, if it breaks one.
 pub(crate) fn held_rule(row: &Row) -> Result<Option<&'static str>, StoreFault>
-    ensures judged { IfOk result (λ o. MatchOption o (IsHeldRow row.now)
-        (λ _. ¬ IsHeldRow row.now)) }
-    ensures fault { IfErr result IsFailure }
+    ensures { MatchResult result (λ o. MatchOption o (IsHeldRow row.now)
+        (λ _. ¬ IsHeldRow row.now)) IsFailure }
 {
     if row.column_count() != 5 {
         return Ok(Some(FORM));
@@ -226,17 +211,12 @@ fn is_image(bytes: &[u8]) -> bool
 
 /// The rows with the count of a key: one, or none.
 fn look_up<S: Alter>(tx: &mut Transaction<'_, S>, row: &RowKey<'_>) -> Result<Vec<Row>, Error>
-    ensures same_reference { tx.new.conn.ghost_name ≡ tx.old.conn.ghost_name }
-    ensures shown { HasCleanDisk (state S.Store tx.new.conn.now)
-        → IsWorking (state S.Store tx.old.conn.now)
-        → IfOk result (λ rows. IsPermutation (map (λ r. column r 4 ∷ [])
-        (filter (is_at (key_in row.now)) (held_rows (state S.Store tx.old.conn.now).now)))
-        rows.items) }
-    ensures same { HasCleanDisk (state S.Store tx.new.conn.now)
-        → IsWorking (state S.Store tx.old.conn.now)
-        → OnOk result (IsUnchanged (state S.Store tx.old.conn.now)
-        (state S.Store tx.new.conn.now)) }
-    ensures stays { Stays (state S.Store tx.old.conn.now) (state S.Store tx.new.conn.now) }
+    ensures shown { Within S.Store tx.old.conn tx.new.conn (λ old _.
+        IfOk result (λ rows. IsPermutation (map (λ r. column r 4 ∷ []) (filter (is_at (key_in
+        row.now)) (held_rows old.now))) rows.items)) }
+    ensures same { Within S.Store tx.old.conn tx.new.conn (λ old new.
+        OnOk result (IsUnchanged old new)) }
+    ensures stays { Stays S.Store tx.old.conn tx.new.conn result }
 {
     tx.query_all(
         COUNT_OF,
@@ -250,26 +230,12 @@ fn look_up<S: Alter>(tx: &mut Transaction<'_, S>, row: &RowKey<'_>) -> Result<Ve
 
 /// The rows with the count of a key: one, or none.
 fn find<S: Alter>(conn: &mut Connection<S>, row: &RowKey<'_>) -> Result<Vec<Row>, Error>
-    requires { conn.old.in_transaction ≡ false }
-    ensures autocommit { conn.new.in_transaction ≡ false }
     ensures shown { HasCleanDisk (state S.Store conn.new)
         → IsLaidOut (state S.Store conn.old).now.schema
         → IfOk result (λ rows. IsPermutation (map (λ r. column r 4 ∷ [])
         (filter (is_at (key_in row.now)) (held_rows (state S.Store conn.old).now))) rows.items) }
-    ensures same { HasCleanDisk (state S.Store conn.new)
-        → IsLaidOut (state S.Store conn.old).now.schema
-        → OnOk result (IsUnchanged (state S.Store conn.old) (state S.Store conn.new)) }
-    ensures rests { HasCleanDisk (state S.Store conn.new)
-        → IsLaidOut (state S.Store conn.old).now.schema
-        → (state S.Store conn.old).now ≡ (state S.Store conn.old).committed
-        → Rests (state S.Store conn.old) (state S.Store conn.new) }
-    ensures survives { IsLaidOut (state S.Store conn.old).now.schema
-        → Survives (state S.Store conn.old) (state S.Store conn.new) (λ _. ⊥) }
-    ensures opened { HasCleanDisk (state S.Store conn.new)
-        → WasOpen (state S.Store conn.old) (state S.Store conn.new) }
-    ensures live { HasCleanDisk (state S.Store conn.new)
-        → OnOk result (IsTrue (state S.Store conn.old).is_open) }
-    ensures clean { HasCleanDisk (state S.Store conn.new) → HasCleanDisk (state S.Store conn.old) }
+    ensures looks { Looks (IsLaidOut (state S.Store conn.old).now.schema)
+        (state S.Store conn.old) (state S.Store conn.new) result }
 {
     conn.query_all(
         COUNT_OF,
@@ -305,15 +271,11 @@ pub(crate) fn read<S: Alter>(
     row: &RowKey<'_>,
 ) -> Result<Option<u64>, Error>
     ensures fits { IfOk result (λ found. IfSome found (λ n. n < 2 ^ 63)) }
-    ensures same_reference { tx.new.conn.ghost_name ≡ tx.old.conn.ghost_name }
-    ensures found { HasCleanDisk (state S.Store tx.new.conn.now)
-        → IsWorking (state S.Store tx.old.conn.now)
-        → IfOk result (Finds (key_in row.now) (held_rows (state S.Store tx.old.conn.now).now)) }
-    ensures same { HasCleanDisk (state S.Store tx.new.conn.now)
-        → IsWorking (state S.Store tx.old.conn.now)
-        → OnOk result (IsUnchanged (state S.Store tx.old.conn.now)
-        (state S.Store tx.new.conn.now)) }
-    ensures stays { Stays (state S.Store tx.old.conn.now) (state S.Store tx.new.conn.now) }
+    ensures found { Within S.Store tx.old.conn tx.new.conn (λ old _.
+        IfOk result (Finds (key_in row.now) (held_rows old.now))) }
+    ensures same { Within S.Store tx.old.conn tx.new.conn (λ old new.
+        OnOk result (IsUnchanged old new)) }
+    ensures stays { Stays S.Store tx.old.conn tx.new.conn result }
 {
     let rows = look_up(tx, row)?;
     one_count(rows.as_slice())
@@ -321,26 +283,12 @@ pub(crate) fn read<S: Alter>(
 
 /// The number of copies of a row that is stored; 0 if it is not there.
 pub(crate) fn count<S: Alter>(conn: &mut Connection<S>, row: &RowKey<'_>) -> Result<u64, Error>
-    requires { conn.old.in_transaction ≡ false }
-    ensures autocommit { conn.new.in_transaction ≡ false }
     ensures counts { HasCleanDisk (state S.Store conn.new)
         → IsLaidOut (state S.Store conn.old).now.schema
         → IfOk result (λ n. n ≡ count (held_rows (state S.Store conn.old).now) (key_in row.now)) }
     ensures fits { IfOk result (λ n. n < 2 ^ 63) }
-    ensures same { HasCleanDisk (state S.Store conn.new)
-        → IsLaidOut (state S.Store conn.old).now.schema
-        → OnOk result (IsUnchanged (state S.Store conn.old) (state S.Store conn.new)) }
-    ensures rests { HasCleanDisk (state S.Store conn.new)
-        → IsLaidOut (state S.Store conn.old).now.schema
-        → (state S.Store conn.old).now ≡ (state S.Store conn.old).committed
-        → Rests (state S.Store conn.old) (state S.Store conn.new) }
-    ensures survives { IsLaidOut (state S.Store conn.old).now.schema
-        → Survives (state S.Store conn.old) (state S.Store conn.new) (λ _. ⊥) }
-    ensures opened { HasCleanDisk (state S.Store conn.new)
-        → WasOpen (state S.Store conn.old) (state S.Store conn.new) }
-    ensures live { HasCleanDisk (state S.Store conn.new)
-        → OnOk result (IsTrue (state S.Store conn.old).is_open) }
-    ensures clean { HasCleanDisk (state S.Store conn.new) → HasCleanDisk (state S.Store conn.old) }
+    ensures looks { Looks (IsLaidOut (state S.Store conn.old).now.schema)
+        (state S.Store conn.old) (state S.Store conn.new) result }
 {
     let rows = find(conn, row)?;
     let found = one_count(rows.as_slice())?;
@@ -349,12 +297,9 @@ pub(crate) fn count<S: Alter>(conn: &mut Connection<S>, row: &RowKey<'_>) -> Res
 
 /// Inserts a row with the count 1 if it is not there, and returns whether it did.
 pub(crate) fn insert<S: Alter>(tx: &mut Transaction<'_, S>, row: &RowKey<'_>) -> Result<bool, Error>
-    ensures same_reference { tx.new.conn.ghost_name ≡ tx.old.conn.ghost_name }
-    ensures inserts { HasCleanDisk (state S.Store tx.new.conn.now)
-        → IsWorking (state S.Store tx.old.conn.now)
-        → IfOk result (Inserts (key_in row.now ∷ []) (state S.Store tx.old.conn.now)
-        (state S.Store tx.new.conn.now)) }
-    ensures stays { Stays (state S.Store tx.old.conn.now) (state S.Store tx.new.conn.now) }
+    ensures inserts { Within S.Store tx.old.conn tx.new.conn (λ old new.
+        IfOk result (Inserts (key_in row.now ∷ []) old new)) }
+    ensures stays { Stays S.Store tx.old.conn tx.new.conn result }
 {
     let outcome = tx.execute(
         "INSERT INTO held VALUES (?1, ?2, ?3, 1)",
@@ -389,12 +334,9 @@ pub(crate) fn insert_eight<S: Alter>(
     table: &[u8],
     images: &[&[u8]],
 ) -> Result<bool, Error>
-    ensures same_reference { tx.new.conn.ghost_name ≡ tx.old.conn.ghost_name }
-    ensures inserts { HasCleanDisk (state S.Store tx.new.conn.now)
-        → IsWorking (state S.Store tx.old.conn.now)
-        → IfOk result (Inserts (map (λ r. key_of schema.now table.now r.now) images.now)
-        (state S.Store tx.old.conn.now) (state S.Store tx.new.conn.now)) }
-    ensures stays { Stays (state S.Store tx.old.conn.now) (state S.Store tx.new.conn.now) }
+    ensures inserts { Within S.Store tx.old.conn tx.new.conn (λ old new.
+        IfOk result (Inserts (map (λ r. key_of schema.now table.now r.now) images.now) old new)) }
+    ensures stays { Stays S.Store tx.old.conn tx.new.conn result }
 {
     let [a, b, c, d, e, f, g, h] = images else {
         return Ok(false);
@@ -418,12 +360,9 @@ pub(crate) fn insert_eight<S: Alter>(
 
 /// Deletes a row if its count is 1, and returns whether it did.
 pub(crate) fn delete<S: Alter>(tx: &mut Transaction<'_, S>, row: &RowKey<'_>) -> Result<bool, Error>
-    ensures same_reference { tx.new.conn.ghost_name ≡ tx.old.conn.ghost_name }
-    ensures deletes { HasCleanDisk (state S.Store tx.new.conn.now)
-        → IsWorking (state S.Store tx.old.conn.now)
-        → IfOk result (Deletes (key_in row.now) (state S.Store tx.old.conn.now)
-        (state S.Store tx.new.conn.now)) }
-    ensures stays { Stays (state S.Store tx.old.conn.now) (state S.Store tx.new.conn.now) }
+    ensures deletes { Within S.Store tx.old.conn tx.new.conn (λ old new.
+        IfOk result (Deletes (key_in row.now) old new)) }
+    ensures stays { Stays S.Store tx.old.conn tx.new.conn result }
 {
     let deleted = tx.execute(
         "DELETE FROM held WHERE schema_name = ?1 AND table_name = ?2 AND image = ?3 AND n = ?4",
@@ -443,20 +382,16 @@ pub(crate) fn update<S: Alter>(
     row: &RowKey<'_>,
     n: i64,
 ) -> Result<usize, Error>
-    ensures same_reference { tx.new.conn.ghost_name ≡ tx.old.conn.ghost_name }
-    ensures raised { HasCleanDisk (state S.Store tx.new.conn.now)
-        → IsWorking (state S.Store tx.old.conn.now) → (m : ℕ) → m + 1 ≤ most
-        → Finds (key_in row.now) (held_rows (state S.Store tx.old.conn.now).now) (Some m)
-        → n ≡ pos (m + 1) → OnOk result (HasCounts (state S.Store tx.old.conn.now)
-        (state S.Store tx.new.conn.now) (with_one (key_in row.now)
-        (count (held_rows (state S.Store tx.old.conn.now).now)))) }
-    ensures lowered { HasCleanDisk (state S.Store tx.new.conn.now)
-        → IsWorking (state S.Store tx.old.conn.now) → (m : ℕ) → 1 ≤ m → m ≤ most
-        → Finds (key_in row.now) (held_rows (state S.Store tx.old.conn.now).now) (Some (m + 1))
-        → n ≡ pos m → OnOk result (HasCounts (state S.Store tx.old.conn.now)
-        (state S.Store tx.new.conn.now) (without_one (key_in row.now)
-        (count (held_rows (state S.Store tx.old.conn.now).now)))) }
-    ensures stays { Stays (state S.Store tx.old.conn.now) (state S.Store tx.new.conn.now) }
+    ensures raised { Within S.Store tx.old.conn tx.new.conn (λ old new.
+        (m : ℕ) → m + 1 ≤ most → Finds (key_in row.now) (held_rows old.now) (Some m)
+        → n ≡ pos (m + 1)
+        → OnOk result (HasCounts old new (with_one (key_in row.now) (count (held_rows old.now))))) }
+    ensures lowered { Within S.Store tx.old.conn tx.new.conn (λ old new.
+        (m : ℕ) → 1 ≤ m → m ≤ most → Finds (key_in row.now) (held_rows old.now) (Some (m + 1))
+        → n ≡ pos m
+        → OnOk result (HasCounts old new (without_one (key_in row.now) (count (held_rows
+        old.now))))) }
+    ensures stays { Stays S.Store tx.old.conn tx.new.conn result }
 {
     tx.execute(
         "UPDATE held SET n = ?4 WHERE schema_name = ?1 AND table_name = ?2 AND image = ?3",

@@ -1,16 +1,17 @@
 //! The table `meta`: which layout the tables have.
 
-ghost use Rattle.std.specs.Prelude.{◌≡◌, [], pos, true, false, OnOk, IfOk, None, ◌<◌, MatchBool, MatchOption, codes};
-ghost use Rattle.sqlite.specs.State.{HasCleanDisk, Survives, KeepsCommit, IsUnchanged};
+ghost use Rattle.std.specs.Prelude.{◌≡◌, [], pos, true, false, IfOk, None, ◌<◌, MatchBool, MatchOption, codes};
+ghost use Rattle.sqlite.specs.State.{HasCleanDisk};
 ghost use Rattle.sqlite.specs.Held.{state};
 ghost use Rattle.store.specs.State.{Content};
+ghost use Rattle.store.specs.Inside.{Stays, TurnsInto};
 ghost use Rattle.store.specs.Making.{with_meta, new_layout, IsMaking, IsNaming};
 ghost use Rattle.store.specs.Migrating.{HasBare, IsMigrating};
 ghost use Rattle.std.specs.List.{AllByRecursion};
 ghost use Rattle.store.specs.Layout.{HasMeta};
 ghost use Rattle.store.specs.Rows.{meta_rows, IsMetaRow, is_text};
 ghost use Rattle.store.specs.Judge.{IsMeta, IsOnly, layouts};
-ghost use Rattle.store.specs.Load.{Rested};
+ghost use Rattle.store.specs.Load.{Looks};
 ghost use Rattle.sqlite_value.specs.Order.{column};
 ghost use Rattle.sqlite_value.specs.declared.value.Value.TheVariants.{Int};
 ghost use Rattle.std.specs.FinSet as set;
@@ -32,15 +33,9 @@ pub(crate) struct Meta {
 }
 
 pub(crate) fn make_meta<S: Alter>(tx: &mut Transaction<'_, S>) -> Result<usize, Error>
-    ensures same_reference { tx.new.conn.ghost_name ≡ tx.old.conn.ghost_name }
-    ensures made { HasCleanDisk (state S.Store tx.new.conn.now)
-        → IsMaking [] (state S.Store tx.old.conn.now)
-        → OnOk result (IsMaking with_meta (state S.Store tx.new.conn.now)) }
-    ensures kept { HasCleanDisk (state S.Store tx.new.conn.now)
-        → IsMaking [] (state S.Store tx.old.conn.now)
-        → KeepsCommit (state S.Store tx.old.conn.now) (state S.Store tx.new.conn.now) }
-    ensures survives { Survives (state S.Store tx.old.conn.now) (state S.Store tx.new.conn.now)
-        (λ _. ⊥) }
+    ensures made { TurnsInto S.Store tx.old.conn tx.new.conn result
+        (IsMaking []) (IsMaking with_meta) }
+    ensures stays { Stays S.Store tx.old.conn tx.new.conn result }
 {
     tx.execute(
         "CREATE TABLE meta (k TEXT PRIMARY KEY, v INTEGER NOT NULL)",
@@ -50,50 +45,29 @@ pub(crate) fn make_meta<S: Alter>(tx: &mut Transaction<'_, S>) -> Result<usize, 
 
 /// Records that the tables have layout 2.
 pub(crate) fn set_layout<S: Alter>(tx: &mut Transaction<'_, S>) -> Result<usize, Error>
-    ensures same_reference { tx.new.conn.ghost_name ≡ tx.old.conn.ghost_name }
-    ensures made { HasCleanDisk (state S.Store tx.new.conn.now)
-        → IsMaking new_layout (state S.Store tx.old.conn.now)
-        → OnOk result (IsNaming set.empty (state S.Store tx.new.conn.now)) }
-    ensures kept { HasCleanDisk (state S.Store tx.new.conn.now)
-        → IsMaking new_layout (state S.Store tx.old.conn.now)
-        → KeepsCommit (state S.Store tx.old.conn.now) (state S.Store tx.new.conn.now) }
-    ensures survives { Survives (state S.Store tx.old.conn.now) (state S.Store tx.new.conn.now)
-        (λ _. ⊥) }
+    ensures made { TurnsInto S.Store tx.old.conn tx.new.conn result
+        (IsMaking new_layout) (IsNaming set.empty) }
+    ensures stays { Stays S.Store tx.old.conn tx.new.conn result }
 {
     tx.execute("INSERT INTO meta VALUES ('layout', 2)", &[])
 }
 
 /// Records that the tables have layout 2. Other rows of `meta` stay.
 pub(crate) fn raise_layout<S: Alter>(tx: &mut Transaction<'_, S>) -> Result<usize, Error>
-    ensures same_reference { tx.new.conn.ghost_name ≡ tx.old.conn.ghost_name }
-    ensures migrated { HasCleanDisk (state S.Store tx.new.conn.now) → (content : Content)
-        → IsMigrating HasBare (pos 1) content (state S.Store tx.old.conn.now)
-        → OnOk result (IsMigrating HasBare (pos 2) content (state S.Store tx.new.conn.now)) }
-    ensures kept { HasCleanDisk (state S.Store tx.new.conn.now) → (content : Content)
-        → IsMigrating HasBare (pos 1) content (state S.Store tx.old.conn.now)
-        → KeepsCommit (state S.Store tx.old.conn.now) (state S.Store tx.new.conn.now) }
-    ensures survives { Survives (state S.Store tx.old.conn.now) (state S.Store tx.new.conn.now)
-        (λ _. ⊥) }
+    ensures migrated { (content : Content) → TurnsInto S.Store tx.old.conn tx.new.conn result
+        (IsMigrating HasBare (pos 1) content) (IsMigrating HasBare (pos 2) content) }
+    ensures stays { Stays S.Store tx.old.conn tx.new.conn result }
 {
     tx.execute("UPDATE meta SET v = 2 WHERE k = 'layout'", &[])
 }
 
 /// What the rows of `meta` say.
 pub(crate) fn read_meta<S: Alter>(conn: &mut Connection<S>) -> Result<Meta, Error>
-    requires { conn.old.in_transaction ≡ false }
-    ensures autocommit { conn.new.in_transaction ≡ false }
     ensures says { HasCleanDisk (state S.Store conn.new)
         → HasMeta (state S.Store conn.old).now.schema
         → IfOk result (IsMeta (meta_rows (state S.Store conn.old).now)) }
-    ensures same { HasCleanDisk (state S.Store conn.new)
-        → HasMeta (state S.Store conn.old).now.schema
-        → OnOk result (IsUnchanged (state S.Store conn.old) (state S.Store conn.new)) }
-    ensures rested { HasCleanDisk (state S.Store conn.new)
-        → HasMeta (state S.Store conn.old).now.schema
-        → Rested (state S.Store conn.old) (state S.Store conn.new) }
-    ensures crash { HasMeta (state S.Store conn.old).now.schema
-        → Survives (state S.Store conn.old) (state S.Store conn.new) (λ _. ⊥) }
-    ensures clean { HasCleanDisk (state S.Store conn.new) → HasCleanDisk (state S.Store conn.old) }
+    ensures looks { Looks (HasMeta (state S.Store conn.old).now.schema)
+        (state S.Store conn.old) (state S.Store conn.new) result }
 {
     let rows = read_all(conn, ALL)?;
     meta_in(&rows)

@@ -1,6 +1,6 @@
 //! What the row tests of the tables share.
 
-ghost use Rattle.std.specs.Prelude.{◌≡◌, true, ◌<◌, ◌≤◌, pos, ℕ, IfOk, OnOk, IfSome, IfNone, MatchOption, [], false, IsPermutation, IsTrue};
+ghost use Rattle.std.specs.Prelude.{◌≡◌, true, ◌<◌, ◌≤◌, pos, ℕ, IfOk, OnOk, IfSome, IfNone, MatchOption, [], false};
 ghost use Rattle.std.specs.List.{AllByRecursion};
 ghost use Rattle.store.specs.Changes.{most};
 ghost use Rattle.gtid.specs.Identifier.{IsSource, id};
@@ -8,10 +8,8 @@ ghost use Rattle.store.specs.Rows.{HasRowids};
 ghost use Rattle.sqlite_value.specs.Order.{column};
 ghost use Rattle.sqlite_value.specs.declared.value.Value.TheVariants.{Int};
 ghost use Rattle.store.specs.Judge.{IsAfter};
-ghost use Rattle.sqlite.specs.State.{HasCleanDisk, IsUnchanged, Survives};
 ghost use Rattle.sqlite.specs.Held.{state};
-ghost use Rattle.store.specs.Inside.{WasOpen};
-ghost use Rattle.store.specs.Load.{AsksAll, Ascends, by_order, Rested};
+ghost use Rattle.store.specs.Load.{ReadsRows};
 
 use sqlite::types::ValueRef;
 use sqlite::{Alter, Connection, Error, ErrorCode, Row};
@@ -112,26 +110,8 @@ pub(crate) fn is_after(last: Option<i64>, id: i64) -> bool
 
 /// All rows of a table, read by this statement.
 pub(crate) fn read_all<S: Alter>(conn: &mut Connection<S>, sql: &str) -> Result<Vec<Row>, Error>
-    requires { conn.old.in_transaction ≡ false }
-    ensures autocommit { conn.new.in_transaction ≡ false }
-    ensures rows { HasCleanDisk (state S.Store conn.new) → (tree : ℕ)
-        → AsksAll (state S.Store conn.old).now.schema sql.now tree
-        → IfOk result (λ rows. IsPermutation ((state S.Store conn.old).now.trees tree) rows.items) }
-    ensures ascend { HasCleanDisk (state S.Store conn.new) → (tree : ℕ)
-        → (asks : AsksAll (state S.Store conn.old).now.schema sql.now tree)
-        → IfOk result (λ rows. Ascends (by_order asks.order) rows.items) }
-    ensures same { HasCleanDisk (state S.Store conn.new) → (tree : ℕ)
-        → AsksAll (state S.Store conn.old).now.schema sql.now tree
-        → OnOk result (IsUnchanged (state S.Store conn.old) (state S.Store conn.new)) }
-    ensures rested { HasCleanDisk (state S.Store conn.new) → (tree : ℕ)
-        → AsksAll (state S.Store conn.old).now.schema sql.now tree
-        → Rested (state S.Store conn.old) (state S.Store conn.new) }
-    ensures crash { Survives (state S.Store conn.old) (state S.Store conn.new) (λ _. (tree : ℕ)
-        → ¬ AsksAll (state S.Store conn.old).now.schema sql.now tree) }
-    ensures opened { HasCleanDisk (state S.Store conn.new)
-        → WasOpen (state S.Store conn.old) (state S.Store conn.new) }
-    ensures live { HasCleanDisk (state S.Store conn.new)
-        → OnOk result (IsTrue (state S.Store conn.old).is_open) }
+    ensures { ReadsRows sql.now (state S.Store conn.old) (state S.Store conn.new) result
+        (λ rows. rows.items) }
 {
     // For the prover: it names the schema in the proof. The call does nothing at run time.
     conn.schema();

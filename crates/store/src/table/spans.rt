@@ -1,14 +1,13 @@
 //! The table `spans`: the executed set.
 
-ghost use Rattle.std.specs.Prelude.{◌≡◌, [], pos, true, false, OnOk, ℕ, map, IfOk, IfErr, IsPermutation, None, ◌<◌, IfSome, MatchOption, MatchResult, ℤ, List, ◌∷◌, ◌++◌};
-ghost use Rattle.sqlite.specs.State.{HasCleanDisk, Survives, KeepsCommit};
+ghost use Rattle.std.specs.Prelude.{◌≡◌, [], pos, true, false, OnOk, map, IfOk, IfErr, IsPermutation, None, ◌<◌, IfSome, MatchOption, MatchResult, ℤ, List, ◌∷◌, ◌++◌};
 ghost use Rattle.sqlite.specs.Held.{state};
 ghost use Rattle.store.specs.State.{Content};
 ghost use Rattle.store.specs.Making.{with_held, with_spans, IsMaking};
 ghost use Rattle.store.specs.Migrating.{made_spans, HasTables, IsMigrating};
 ghost use Rattle.std.specs.List.{AllByRecursion, IsDistinct};
 ghost use Rattle.store.specs.Rows.{HasRowids, IsSpanRow, AreSpans, touches, span_in, span_rows, shown_spans, stored_span};
-ghost use Rattle.store.specs.Load.{ReadsAll, Judges, IsLoadFault, all_spans_text};
+ghost use Rattle.store.specs.Load.{ReadsAll, Judges, all_spans_text};
 ghost use Rattle.gtid.specs.Identifier.{id_cmp, IsSource, Ids, id, IsGtid, AreGtids};
 ghost use Rattle.gtid.specs.Gathering.{start, SpansRise};
 ghost use Rattle.gtid.specs.declared.span.Span.{Span};
@@ -18,7 +17,7 @@ ghost use Rattle.store.specs.declared.fault.StoreFault.TheVariants.{Memory};
 ghost use Rattle.sqlite_value.specs.declared.value.Value.TheVariants.{Int, Blob};
 ghost use Rattle.store.specs.Faults.{IsFailure};
 ghost use Rattle.sqlite_value.specs.Order.{Row as Stored};
-ghost use Rattle.store.specs.Inside.{IsWorking, StaysOpen, Moves, Begins, AreRowsOf, Shows, Records, Stays, HasLeft};
+ghost use Rattle.store.specs.Inside.{StaysOpen, Moves, Begins, AreRowsOf, Shows, Records, Stays, HasLeft, Within, TurnsInto};
 ghost use Rattle.gtid.specs.Beside.{one_or_none, Joins};
 ghost use Rattle.std.specs.FinSet as set;
 
@@ -41,19 +40,12 @@ const LO: &str = "lo is not from 1 to 9223372036854775806";
 const HI: &str = "hi is not above lo and at most 9223372036854775807";
 
 pub(crate) fn make_spans<S: Alter>(tx: &mut Transaction<'_, S>) -> Result<usize, Error>
-    ensures same_reference { tx.new.conn.ghost_name ≡ tx.old.conn.ghost_name }
-    ensures made { HasCleanDisk (state S.Store tx.new.conn.now)
-        → IsMaking with_held (state S.Store tx.old.conn.now)
-        → OnOk result (IsMaking with_spans (state S.Store tx.new.conn.now)) }
-    ensures migrated { HasCleanDisk (state S.Store tx.new.conn.now) → (content : Content)
-        → IsMigrating (HasTables []) (pos 1) content (state S.Store tx.old.conn.now)
-        → OnOk result (IsMigrating (HasTables made_spans) (pos 1) content
-        (state S.Store tx.new.conn.now)) }
-    ensures kept { HasCleanDisk (state S.Store tx.new.conn.now)
-        → (state S.Store tx.old.conn.now).in_transaction ≡ true
-        → KeepsCommit (state S.Store tx.old.conn.now) (state S.Store tx.new.conn.now) }
-    ensures survives { Survives (state S.Store tx.old.conn.now) (state S.Store tx.new.conn.now)
-        (λ _. ⊥) }
+    ensures made { TurnsInto S.Store tx.old.conn tx.new.conn result
+        (IsMaking with_held) (IsMaking with_spans) }
+    ensures migrated { (content : Content) → TurnsInto S.Store tx.old.conn tx.new.conn result
+        (IsMigrating (HasTables []) (pos 1) content)
+        (IsMigrating (HasTables made_spans) (pos 1) content) }
+    ensures stays { Stays S.Store tx.old.conn tx.new.conn result }
 {
     tx.execute(
         "CREATE TABLE spans (source BLOB NOT NULL, lo INTEGER NOT NULL, hi INTEGER NOT NULL, PRIMARY KEY (source, lo))",
@@ -66,12 +58,9 @@ pub(crate) fn load_spans<S: Alter>(
     alloc: Global,
     conn: &mut Connection<S>,
 ) -> Result<GtidSet, StoreFault>
-    requires { conn.old.in_transaction ≡ false }
-    ensures autocommit { conn.new.in_transaction ≡ false }
-    ensures reads { ReadsAll all_spans_text (state S.Store conn.old) (state S.Store conn.new) result
+    ensures { ReadsAll all_spans_text (state S.Store conn.old) (state S.Store conn.new) result
         (λ rows ids. AreSpans rows ids × HasRowids rows)
         (λ rows. AllByRecursion IsSpanRow rows × IsDistinct touches (map span_in rows)) }
-    ensures fault { IfErr result IsLoadFault }
 {
     let rows = read_all(conn, ALL)?;
     spans_from(alloc, &rows)
@@ -79,10 +68,9 @@ pub(crate) fn load_spans<S: Alter>(
 
 /// The set of the rows of `spans`.
 pub(crate) fn spans_from(alloc: Global, rows: &[Row]) -> Result<GtidSet, StoreFault>
-    ensures judged { Judges result (λ ids. AreSpans rows.now ids
+    ensures { Judges result (λ ids. AreSpans rows.now ids
         × HasRowids rows.now) (AllByRecursion IsSpanRow rows.now
         × IsDistinct touches (map span_in rows.now)) }
-    ensures fault { IfErr result IsLoadFault }
 {
     let Some(spans) = spans_of(alloc, rows)? else {
         return Err(StoreFault::Damaged);
@@ -93,9 +81,9 @@ pub(crate) fn spans_from(alloc: Global, rows: &[Row]) -> Result<GtidSet, StoreFa
 
 /// The spans of the rows, if all are lawful rows of `spans`.
 pub(crate) fn spans_of(alloc: Global, rows: &[Row]) -> Result<Option<Vec<Span>>, StoreFault>
-    ensures judged { IfOk result (λ o. MatchOption o (¬ AllByRecursion IsSpanRow rows.now)
-        (λ spans. AllByRecursion IsSpanRow rows.now × (spans.items ≡ map span_in rows.now))) }
-    ensures fault { IfErr result IsFailure }
+    ensures { MatchResult result (λ o. MatchOption o (¬ AllByRecursion IsSpanRow rows.now)
+        (λ spans. AllByRecursion IsSpanRow rows.now × (spans.items ≡ map span_in rows.now)))
+        IsFailure }
 {
     let mut spans = Vec::new(alloc);
     for row in rows {
@@ -144,7 +132,6 @@ fn set_of(alloc: Global, spans: Vec<Span>) -> Result<GtidSet, StoreFault>
     requires { AllByRecursion IsLawfulSpan spans.items }
     ensures judged { Judges result (Covers spans.items) (IsDistinct touches spans.items) }
     ensures apart { OnOk result (IsDistinct touches spans.items) }
-    ensures fault { IfErr result IsLoadFault }
 {
     let spans = in_order(spans);
     if !are_apart(&spans) {
@@ -216,13 +203,10 @@ pub(crate) fn add_span<S: Alter>(
     lo: i64,
     hi: i64,
 ) -> Result<usize, Error>
-    ensures same_reference { tx.new.conn.ghost_name ≡ tx.old.conn.ghost_name }
-    ensures moves { HasCleanDisk (state S.Store tx.new.conn.now)
-        → IsWorking (state S.Store tx.old.conn.now)
-        → OnOk result (Moves (state S.Store tx.old.conn.now) (state S.Store tx.new.conn.now)
-        ((Blob source.now ∷ Int lo ∷ Int hi ∷ []) ∷ shown_spans
-        (span_rows (state S.Store tx.old.conn.now).now))) }
-    ensures stays { Stays (state S.Store tx.old.conn.now) (state S.Store tx.new.conn.now) }
+    ensures moves { Within S.Store tx.old.conn tx.new.conn (λ old new.
+        OnOk result (Moves old new ((Blob source.now ∷ Int lo ∷ Int hi ∷ []) ∷ shown_spans
+        (span_rows old.now)))) }
+    ensures stays { Stays S.Store tx.old.conn tx.new.conn result }
 {
     tx.execute(
         "INSERT INTO spans VALUES (?1, ?2, ?3)",
@@ -236,16 +220,13 @@ pub(crate) fn drop_span<S: Alter>(
     source: &[u8],
     lo: i64,
 ) -> Result<usize, Error>
-    ensures same_reference { tx.new.conn.ghost_name ≡ tx.old.conn.ghost_name }
-    ensures moves { HasCleanDisk (state S.Store tx.new.conn.now)
-        → IsWorking (state S.Store tx.old.conn.now) → (span : Stored) → (others : List Stored)
-        → Begins source.now lo (shown_spans (span_rows (state S.Store tx.old.conn.now).now)) span
-        others → OnOk result (Moves (state S.Store tx.old.conn.now)
-        (state S.Store tx.new.conn.now) others) }
-    ensures goes { HasCleanDisk (state S.Store tx.new.conn.now)
-        → IsWorking (state S.Store tx.old.conn.now)
-        → OnOk result (StaysOpen (state S.Store tx.old.conn.now) (state S.Store tx.new.conn.now)) }
-    ensures stays { Stays (state S.Store tx.old.conn.now) (state S.Store tx.new.conn.now) }
+    ensures moves { Within S.Store tx.old.conn tx.new.conn (λ old new.
+        (span : Stored) → (others : List Stored)
+        → Begins source.now lo (shown_spans (span_rows old.now)) span others
+        → OnOk result (Moves old new others)) }
+    ensures goes { Within S.Store tx.old.conn tx.new.conn (λ old new.
+        OnOk result (StaysOpen old new)) }
+    ensures stays { Stays S.Store tx.old.conn tx.new.conn result }
 {
     tx.execute(
         "DELETE FROM spans WHERE source = ?1 AND lo = ?2",
@@ -260,14 +241,12 @@ fn set_end<S: Alter>(
     lo: i64,
     hi: i64,
 ) -> Result<usize, Error>
-    ensures same_reference { tx.new.conn.ghost_name ≡ tx.old.conn.ghost_name }
-    ensures moves { HasCleanDisk (state S.Store tx.new.conn.now)
-        → IsWorking (state S.Store tx.old.conn.now) → (end : ℤ) → (others : List Stored)
-        → Begins source.now lo (shown_spans (span_rows (state S.Store tx.old.conn.now).now))
-        (Blob source.now ∷ Int lo ∷ Int end ∷ []) others
-        → OnOk result (Moves (state S.Store tx.old.conn.now) (state S.Store tx.new.conn.now)
-        ((Blob source.now ∷ Int lo ∷ Int hi ∷ []) ∷ others)) }
-    ensures stays { Stays (state S.Store tx.old.conn.now) (state S.Store tx.new.conn.now) }
+    ensures moves { Within S.Store tx.old.conn tx.new.conn (λ old new.
+        (end : ℤ) → (others : List Stored)
+        → Begins source.now lo (shown_spans (span_rows old.now)) (Blob source.now ∷ Int lo ∷ Int end
+        ∷ []) others
+        → OnOk result (Moves old new ((Blob source.now ∷ Int lo ∷ Int hi ∷ []) ∷ others))) }
+    ensures stays { Stays S.Store tx.old.conn tx.new.conn result }
 {
     tx.execute(
         "UPDATE spans SET hi = ?3 WHERE source = ?1 AND lo = ?2",
@@ -281,17 +260,13 @@ fn drop_neighbour<S: Alter>(
     neighbour: Option<Span>,
 ) -> Result<(), Error>
     requires { IfSome neighbour IsLawfulSpan }
-    ensures same_reference { tx.new.conn.ghost_name ≡ tx.old.conn.ghost_name }
-    ensures moves { HasCleanDisk (state S.Store tx.new.conn.now)
-        → IsWorking (state S.Store tx.old.conn.now) → (front : List Span) → (rest : List Span)
-        → AreRowsOf (span_rows (state S.Store tx.old.conn.now).now)
-        (front ++ (one_or_none neighbour ++ rest))
-        → OnOk result (Moves (state S.Store tx.old.conn.now) (state S.Store tx.new.conn.now)
-        (map stored_span (front ++ rest))) }
-    ensures goes { HasCleanDisk (state S.Store tx.new.conn.now)
-        → IsWorking (state S.Store tx.old.conn.now)
-        → OnOk result (StaysOpen (state S.Store tx.old.conn.now) (state S.Store tx.new.conn.now)) }
-    ensures stays { Stays (state S.Store tx.old.conn.now) (state S.Store tx.new.conn.now) }
+    ensures moves { Within S.Store tx.old.conn tx.new.conn (λ old new.
+        (front : List Span) → (rest : List Span)
+        → AreRowsOf (span_rows old.now) (front ++ (one_or_none neighbour ++ rest))
+        → OnOk result (Moves old new (map stored_span (front ++ rest)))) }
+    ensures goes { Within S.Store tx.old.conn tx.new.conn (λ old new.
+        OnOk result (StaysOpen old new)) }
+    ensures stays { Stays S.Store tx.old.conn tx.new.conn result }
 {
     let Some(span) = neighbour else {
         return Ok(());
@@ -309,15 +284,12 @@ pub(crate) fn record<S: Alter>(
 ) -> Result<usize, Error>
     requires below { IfSome beside.now.below IsLawfulSpan }
     requires above { IfSome beside.now.above IsLawfulSpan }
-    ensures same_reference { tx.new.conn.ghost_name ≡ tx.old.conn.ghost_name }
     ensures lawful { IsGtid (id gtid) }
-    ensures records { HasCleanDisk (state S.Store tx.new.conn.now)
-        → IsWorking (state S.Store tx.old.conn.now) → (ids : Ids) → (spans : List Span)
-        → Shows (span_rows (state S.Store tx.old.conn.now).now) spans ids
-        → Joins ids (id gtid) beside.now spans → OnOk result
-        (Records (state S.Store tx.old.conn.now) (state S.Store tx.new.conn.now)
-        (set.insert ids (id gtid))) }
-    ensures stays { Stays (state S.Store tx.old.conn.now) (state S.Store tx.new.conn.now) }
+    ensures records { Within S.Store tx.old.conn tx.new.conn (λ old new.
+        (ids : Ids) → (spans : List Span) → Shows (span_rows old.now) spans ids
+        → Joins ids (id gtid) beside.now spans
+        → OnOk result (Records old new (set.insert ids (id gtid)))) }
+    ensures stays { Stays S.Store tx.old.conn tx.new.conn result }
 {
     is_source(gtid.source);
     let span = beside.joined(gtid);
@@ -330,13 +302,10 @@ pub(crate) fn record<S: Alter>(
 
 /// Inserts a span. One that the columns cannot hold is refused.
 fn add<S: Alter>(tx: &mut Transaction<'_, S>, span: Span) -> Result<usize, Error>
-    ensures same_reference { tx.new.conn.ghost_name ≡ tx.old.conn.ghost_name }
     ensures source { IsSource span.source }
-    ensures moves { HasCleanDisk (state S.Store tx.new.conn.now)
-        → IsWorking (state S.Store tx.old.conn.now)
-        → OnOk result (Moves (state S.Store tx.old.conn.now) (state S.Store tx.new.conn.now)
-        (stored_span span ∷ shown_spans (span_rows (state S.Store tx.old.conn.now).now))) }
-    ensures stays { Stays (state S.Store tx.old.conn.now) (state S.Store tx.new.conn.now) }
+    ensures moves { Within S.Store tx.old.conn tx.new.conn (λ old new.
+        OnOk result (Moves old new (stored_span span ∷ shown_spans (span_rows old.now)))) }
+    ensures stays { Stays S.Store tx.old.conn tx.new.conn result }
 {
     is_source(span.source);
     if span.lo > MOST {
@@ -350,13 +319,10 @@ fn add<S: Alter>(tx: &mut Transaction<'_, S>, span: Span) -> Result<usize, Error
 
 /// Inserts the spans.
 pub(crate) fn add_all<S: Alter>(tx: &mut Transaction<'_, S>, spans: Spans<'_>) -> Result<(), Error>
-    ensures same_reference { tx.new.conn.ghost_name ≡ tx.old.conn.ghost_name }
     ensures sources { OnOk result (AllByRecursion (λ s. IsSource s.source) spans.entry) }
-    ensures moves { HasCleanDisk (state S.Store tx.new.conn.now)
-        → IsWorking (state S.Store tx.old.conn.now)
-        → OnOk result (HasLeft (state S.Store tx.old.conn.now)
-        (state S.Store tx.new.conn.now) spans.entry []) }
-    ensures stays { Stays (state S.Store tx.old.conn.now) (state S.Store tx.new.conn.now) }
+    ensures moves { Within S.Store tx.old.conn tx.new.conn (λ old new.
+        OnOk result (HasLeft old new spans.entry [])) }
+    ensures stays { Stays S.Store tx.old.conn tx.new.conn result }
 {
     for span in spans {
         add(tx, span)?;
@@ -366,16 +332,12 @@ pub(crate) fn add_all<S: Alter>(tx: &mut Transaction<'_, S>, spans: Spans<'_>) -
 
 /// Deletes a span. One that the columns cannot hold is refused.
 fn remove<S: Alter>(tx: &mut Transaction<'_, S>, span: Span) -> Result<usize, Error>
-    ensures same_reference { tx.new.conn.ghost_name ≡ tx.old.conn.ghost_name }
-    ensures moves { HasCleanDisk (state S.Store tx.new.conn.now)
-        → IsWorking (state S.Store tx.old.conn.now) → (rest : List Span)
-        → AreRowsOf (span_rows (state S.Store tx.old.conn.now).now) (span ∷ rest)
-        → OnOk result (Moves (state S.Store tx.old.conn.now) (state S.Store tx.new.conn.now)
-        (map stored_span rest)) }
-    ensures goes { HasCleanDisk (state S.Store tx.new.conn.now)
-        → IsWorking (state S.Store tx.old.conn.now)
-        → OnOk result (StaysOpen (state S.Store tx.old.conn.now) (state S.Store tx.new.conn.now)) }
-    ensures stays { Stays (state S.Store tx.old.conn.now) (state S.Store tx.new.conn.now) }
+    ensures moves { Within S.Store tx.old.conn tx.new.conn (λ old new.
+        (rest : List Span) → AreRowsOf (span_rows old.now) (span ∷ rest)
+        → OnOk result (Moves old new (map stored_span rest))) }
+    ensures goes { Within S.Store tx.old.conn tx.new.conn (λ old new.
+        OnOk result (StaysOpen old new)) }
+    ensures stays { Stays S.Store tx.old.conn tx.new.conn result }
 {
     if span.lo > MOST {
         return Err(Error::IntegralValueOutOfRange(0));
@@ -385,15 +347,11 @@ fn remove<S: Alter>(tx: &mut Transaction<'_, S>, span: Span) -> Result<usize, Er
 
 /// Deletes the spans, where these are all that are stored.
 fn remove_all<S: Alter>(tx: &mut Transaction<'_, S>, spans: Spans<'_>) -> Result<(), Error>
-    ensures same_reference { tx.new.conn.ghost_name ≡ tx.old.conn.ghost_name }
-    ensures moves { HasCleanDisk (state S.Store tx.new.conn.now)
-        → IsWorking (state S.Store tx.old.conn.now)
-        → AreRowsOf (span_rows (state S.Store tx.old.conn.now).now) spans.entry
-        → OnOk result (Moves (state S.Store tx.old.conn.now) (state S.Store tx.new.conn.now) []) }
-    ensures goes { HasCleanDisk (state S.Store tx.new.conn.now)
-        → IsWorking (state S.Store tx.old.conn.now)
-        → OnOk result (StaysOpen (state S.Store tx.old.conn.now) (state S.Store tx.new.conn.now)) }
-    ensures stays { Stays (state S.Store tx.old.conn.now) (state S.Store tx.new.conn.now) }
+    ensures moves { Within S.Store tx.old.conn tx.new.conn (λ old new.
+        AreRowsOf (span_rows old.now) spans.entry → OnOk result (Moves old new [])) }
+    ensures goes { Within S.Store tx.old.conn tx.new.conn (λ old new.
+        OnOk result (StaysOpen old new)) }
+    ensures stays { Stays S.Store tx.old.conn tx.new.conn result }
 {
     for span in spans {
         remove(tx, span)?;
@@ -407,14 +365,11 @@ pub(crate) fn replace_all<S: Alter>(
     executed: &GtidSet,
     after: &GtidSet,
 ) -> Result<(), Error>
-    ensures same_reference { tx.new.conn.ghost_name ≡ tx.old.conn.ghost_name }
     ensures lawful { OnOk result (AreGtids after.now) }
-    ensures records { HasCleanDisk (state S.Store tx.new.conn.now)
-        → IsWorking (state S.Store tx.old.conn.now) → (spans : List Span)
-        → Shows (span_rows (state S.Store tx.old.conn.now).now) spans executed.now
-        → OnOk result (Records (state S.Store tx.old.conn.now)
-        (state S.Store tx.new.conn.now) after.now) }
-    ensures stays { Stays (state S.Store tx.old.conn.now) (state S.Store tx.new.conn.now) }
+    ensures records { Within S.Store tx.old.conn tx.new.conn (λ old new.
+        (spans : List Span) → Shows (span_rows old.now) spans executed.now
+        → OnOk result (Records old new after.now)) }
+    ensures stays { Stays S.Store tx.old.conn tx.new.conn result }
 {
     numbers_in_range(after);
     remove_all(tx, executed.spans())?;

@@ -1,4 +1,4 @@
-use Rattle.std.proofs.Common.{◌≡◌, true, Some, None, Ok, is_none, subst, rules, arith}
+use Rattle.std.proofs.Common.{refl, ◌≡◌, true, Some, None, Ok, is_none, subst, rules, arith}
 use Rattle.sqlite.specs.State.{HasCleanDisk, Survives}
 use Rattle.sqlite.specs.declared.error.Error.{Error}
 use Rattle.sqlite.specs.Held.{state}
@@ -9,8 +9,8 @@ use Rattle.store.specs.Apply.{IsAtRest, IsNew, IsRefusedIn, Fills, RunsTransacti
 use Rattle.store.proofs.Ran.{begun_working, rolled, runs_err, may_commit_err, taken, untaken, may_take}
 use Rattle.store.proofs.changes.run_once.Goals as goal
 
-pub returns-in_err-refused-clause-ran : goal.returns-in_err-refused-clause-ran
-returns-in_err-refused-clause-ran g c =
+pub returns-in_err-refused : goal.returns-in_err-refused
+returns-in_err-refused g c =
     let h = c.args.conn.now in
     let sorted = is_none c.args.sorted in
     let names = c.args.filter.now in
@@ -21,15 +21,16 @@ returns-in_err-refused-clause-ran g c =
       runs = λ clean content rest it.
           subst (λ k. HasCleanDisk (state g.S.Store k) → RunsTransaction sorted names content d (state g.S.Store h) (state g.S.Store k) c.from_residual.result) same
           (λ late. runs_err names content d sorted (state g.S.Store h) n c.from_residual.result c.from_residual.ensures.0
-          (rolled g.S.Store h (state g.S.Store c.fill.new.tx.conn.now) n rest.settled (λ early. (rw c.transaction-tx.ensures.begun at c.in_err-refused.ensures.stays.kept) early (begun_working g.S.Store h names content rest)) c.drop-tx.ensures.survives c.drop-tx.ensures.undone late)) clean;
+          (rolled g.S.Store h (state g.S.Store c.fill.new.tx.conn.now) n rest.settled (λ early. (rw c.transaction-tx.ensures.begun at c.in_err-refused.ensures.stays.kept) early refl) c.drop-tx.ensures.survives c.drop-tx.ensures.undone late)) clean;
       opened = search rules;
       done = search rules;
       lives = search rules;
+      autocommit = search rules;
       crash = search rules;
     }
 
-pub returns-in-Some-clause-ran : goal.returns-in-Some-clause-ran
-returns-in-Some-clause-ran g c =
+pub returns-in-Some : goal.returns-in-Some
+returns-in-Some g c =
     let h = c.args.conn.now in
     let m = state g.S.Store c.fill.new.tx.conn.now in
     let sorted = is_none c.args.sorted in
@@ -44,16 +45,17 @@ returns-in-Some-clause-ran g c =
           subst (λ k. HasCleanDisk (state g.S.Store k) → RunsTransaction {E = Error} sorted names content d (state g.S.Store h) (state g.S.Store k) (Ok (Some c.in-Some.refused))) same
           (λ late. (
             refused (omega (arith, c.drop-tx-in-Some.ensures.survives.clean, late)),
-            rolled g.S.Store h m n rest.settled (λ early. (rw c.transaction-tx.ensures.begun at c.in_ok-refused.ensures.stays.kept) early working) c.drop-tx-in-Some.ensures.survives c.drop-tx-in-Some.ensures.undone late,
+            rolled g.S.Store h m n rest.settled (λ early. (rw c.transaction-tx.ensures.begun at c.in_ok-refused.ensures.stays.kept) early refl) c.drop-tx-in-Some.ensures.survives c.drop-tx-in-Some.ensures.undone late,
           )) clean;
       opened = search rules;
       done = search rules;
       lives = search rules;
+      autocommit = search rules;
       crash = search rules;
     }
 
-pub returns-in_err-commit-clause-ran : goal.returns-in_err-commit-clause-ran
-returns-in_err-commit-clause-ran g c =
+pub returns-in_err-commit : goal.returns-in_err-commit
+returns-in_err-commit g c =
     let h = c.args.conn.now in
     let t = state g.S.Store (record h { in_transaction = true }) in
     let m = state g.S.Store c.fill.new.tx.conn.now in
@@ -73,6 +75,7 @@ returns-in_err-commit-clause-ran g c =
       opened = search rules;
       done = search rules;
       lives = search rules;
+      autocommit = search rules;
       crash = λ content rest it.
           let may = MayCommit names content d t.now r in
           subst (λ k. Survives (state g.S.Store h) (state g.S.Store k) may) same
@@ -80,8 +83,8 @@ returns-in_err-commit-clause-ran g c =
           (may_take g.S.Store h names content d m n rest (fills content rest it) c.commit.ensures.survives (rw c.transaction-tx.ensures.begun at c.in_ok-refused.ensures.stays.survives)));
     }
 
-pub returns-clause-ran : goal.returns-clause-ran
-returns-clause-ran g c =
+pub returns : goal.returns
+returns g c =
     let h = c.args.conn.now in
     let t = state g.S.Store (record h { in_transaction = true }) in
     let m = state g.S.Store c.fill.new.tx.conn.now in
@@ -99,6 +102,7 @@ returns-clause-ran g c =
       opened = search rules;
       done = search rules;
       lives = search rules;
+      autocommit = search rules;
       crash = λ content rest it.
           subst (λ k. Survives (state g.S.Store h) (state g.S.Store k) (MayCommit {E = Error} names content d t.now (Ok None))) same
           (may_take g.S.Store h names content d m n rest (fills content rest it) c.commit.ensures.survives (rw c.transaction-tx.ensures.begun at c.in_ok-refused.ensures.stays.survives));

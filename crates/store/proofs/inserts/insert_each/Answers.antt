@@ -1,8 +1,8 @@
-use Rattle.std.proofs.Common.{◌<◌, length, rules, arith}
+use Rattle.std.proofs.Common.{◌<◌, length, arith}
 use Rattle.sqlite.specs.State.{HasCleanDisk}
 use Rattle.sqlite.specs.Held.{state}
 use Rattle.store.specs.Rows.{key_of}
-use Rattle.store.proofs.Keeps.{stays_then}
+use Rattle.store.proofs.Keeps.{stays_then, stays_ok}
 use Rattle.store.proofs.AnyOrder.{raises_more, raises_all}
 use Rattle.store.proofs.inserts.insert_each.Goals as goal
 
@@ -13,13 +13,12 @@ loop-image-preserved g c =
     let new = state g.S.Store c.add.new.tx.conn.now in
     let i = c.loop-image.image-index in
     record {
-      same_reference = search rules;
       under_way = λ clean was.
           let early : HasCleanDisk mid = omega (arith, c.add.ensures.stays.survives.clean) in
           let within : i < length c.args.images.now = c.loop-image-test.true in
           let way = c.loop-image.invariant.under_way early was in
           raises_more (λ r. key_of c.args.schema.now c.args.table.now r.now) c.args.images.now i _ within old mid new way (rw c.in_default.is at (c.in_ok-add.ensures.counted clean way.0.on.working (c.requires i _ within)));
-      stays = stays_then old mid new c.loop-image.invariant.stays (λ early was. (c.loop-image.invariant.under_way early was).0.on.working) c.add.ensures.stays;
+      stays = stays_ok (stays_then c.loop-image.invariant.stays c.in_ok-add.ensures.stays);
     }
 
 pub returns-clause-adds : goal.returns-clause-adds

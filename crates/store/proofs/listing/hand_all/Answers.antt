@@ -12,9 +12,7 @@ pub rows-init : goal.rows-init
 rows-init g c =
     let h = c.args.rows.now.conn.now in
     record {
-      same_reference = refl;
-      autocommit = λ outside. outside;
-      survives = survives_self (state g.S.Store h);
+      reads = record { same_reference = refl; survives = survives_self (state g.S.Store h); autocommit = λ outside. outside };
       listing = λ clean given names content rest. listing_none g.S.Store names content g.V.Visitor.row_gives h rest c.args.visitor.now given;
     }
 
@@ -54,9 +52,7 @@ returns-in_err-hand-clause-hands g c clean given names content rest =
 
 pub rows-preserved : goal.rows-preserved
 rows-preserved g c = record {
-  same_reference = search rules;
-  autocommit = search rules;
-  survives = search rules;
+  reads = search rules;
   listing = λ clean given names content rest.
       let old = c.args.rows.now.conn.now in
       let mid = c.rows.rows.conn.now in

@@ -1,4 +1,4 @@
-use Rattle.std.proofs.Common.{◌≡◌, subst, true, OnOk, OnErr, rules, arith}
+use Rattle.std.proofs.Common.{refl, ◌≡◌, subst, true, OnOk, OnErr, rules, arith}
 use Rattle.sqlite.specs.State.{HasCleanDisk, KeepsCommit, Survives}
 use Rattle.sqlite.specs.Held.{state}
 use Rattle.sqlite.proofs.Callers.{survives_begin}
@@ -17,7 +17,7 @@ returns-in_err-convert-clause-refused g c clean content rest =
     let n = state g.S.Store c.drop-tx.new.self.0 in
     let late : HasCleanDisk n = search (rules, clean) in
     let rests : Rests (state g.S.Store h) n = rolled g.S.Store h (state g.S.Store c.convert.new.tx.conn.now) n rest.settled
-    (λ early. (rw c.transaction-tx.ensures.begun at c.in_err-convert.ensures.kept) early content (first_inside g.S.Store h content rest)) c.drop-tx.ensures.survives c.drop-tx.ensures.undone late in
+    (λ early. (rw c.transaction-tx.ensures.begun at c.in_err-convert.ensures.stays.kept) early refl) c.drop-tx.ensures.survives c.drop-tx.ensures.undone late in
     search (rules, rests)
 
 pub returns-clause-migrated : goal.returns-clause-migrated
@@ -27,7 +27,7 @@ returns-clause-migrated g c clean content rest is =
     let begun = first_inside g.S.Store h content rest in
     let late : HasCleanDisk n = search (rules, clean) in
     let rested : OnOk c.commit.result (IsAtRest n all content × LiesBeside (state g.S.Store h).now n.now) = committed g.S.Store h all content (state g.S.Store c.convert.new.tx.conn.now) n rest.settled
-    (λ early. (rw c.transaction-tx.ensures.begun at c.in_ok-convert.ensures.kept) early content begun) (λ early. (rw c.transaction-tx.ensures.begun at c.in_ok-convert.ensures.made) early content begun is) c.commit.result c.commit.ensures.survives c.commit.ensures.ok late in
+    (λ early. (rw c.transaction-tx.ensures.begun at c.in_ok-convert.ensures.stays.kept) early refl) (λ early. (rw c.transaction-tx.ensures.begun at c.in_ok-convert.ensures.made) early content begun is) c.commit.result c.commit.ensures.survives c.commit.ensures.ok late in
     search (rules, rested)
 
 pub returns-clause-refused : goal.returns-clause-refused
@@ -36,12 +36,11 @@ returns-clause-refused g c clean content rest =
     let t = state g.S.Store (record h { in_transaction = true }) in
     let m = state g.S.Store c.convert.new.tx.conn.now in
     let n = state g.S.Store c.commit.new.self.0 in
-    let begun = first_inside g.S.Store h content rest in
     let late : HasCleanDisk n = search (rules, clean) in
     let early : HasCleanDisk m = omega (arith, c.commit.ensures.survives.clean, late) in
-    let kept : KeepsCommit t m = (rw c.transaction-tx.ensures.begun at c.in_ok-convert.ensures.kept) early content begun in
-    let working = (rw c.transaction-tx.ensures.begun at c.in_ok-convert.ensures.working) early content begun in
-    let refused : OnErr c.commit.result (Rests (state g.S.Store h) n) = rests_unless t m n c.commit.result rest.settled kept working.inside (c.commit.ensures.err late) in
+    let kept : KeepsCommit t m = (rw c.transaction-tx.ensures.begun at c.in_ok-convert.ensures.stays.kept) early refl in
+    let inside : m.in_transaction ≡ true = (rw c.transaction-tx.ensures.begun at c.in_ok-convert.ensures.stays.inside) early in
+    let refused : OnErr c.commit.result (Rests (state g.S.Store h) n) = rests_unless t m n c.commit.result rest.settled kept inside (c.commit.ensures.err late) in
     search (rules, refused)
 
 pub returns-in_err-convert-clause-crash : goal.returns-in_err-convert-clause-crash
@@ -50,7 +49,7 @@ returns-in_err-convert-clause-crash g c =
     let n = state g.S.Store c.drop-tx.new.self.0 in
     let may : Trees → Type 0 = MayMigrate (state g.S.Store h) c.args.executed.now in
     let survives : Survives (state g.S.Store h) n may = survives_rolled g.S.Store h (state g.S.Store c.convert.new.tx.conn.now) n may
-    (rw c.transaction-tx.ensures.begun at c.in_err-convert.ensures.survives) c.drop-tx.ensures.survives in
+    (rw c.transaction-tx.ensures.begun at c.in_err-convert.ensures.stays.survives) c.drop-tx.ensures.survives in
     let same : c.drop-tx.new.self.0 ≡ c.conn-1.given.0 = search rules in
     subst (λ x. Survives (state g.S.Store h) (state g.S.Store x) may) same survives
 
@@ -65,7 +64,7 @@ returns-clause-crash g c =
     survives_begin g.S.Store h n may (survives_then t m n (λ _. ⊥) (λ db. db ≡ m.now.trees) may (λ _ db none. absurd none)
     (λ clean db same content rest is. let begun = first_inside g.S.Store h content rest in
     may_stand g.S.Store h all content m n rest.settled
-    (λ early. (rw c.transaction-tx.ensures.begun at c.in_ok-convert.ensures.kept) early content begun) (λ early. (rw c.transaction-tx.ensures.begun at c.in_ok-convert.ensures.made) early content begun is) c.commit.result c.commit.ensures.survives clean db same)
-    (rw c.transaction-tx.ensures.begun at c.in_ok-convert.ensures.survives) c.commit.ensures.survives) in
+    (λ early. (rw c.transaction-tx.ensures.begun at c.in_ok-convert.ensures.stays.kept) early refl) (λ early. (rw c.transaction-tx.ensures.begun at c.in_ok-convert.ensures.made) early content begun is) c.commit.result c.commit.ensures.survives clean db same)
+    (rw c.transaction-tx.ensures.begun at c.in_ok-convert.ensures.stays.survives) c.commit.ensures.survives) in
     let same : c.commit.new.self.0 ≡ c.conn-2-1.given.0 = search rules in
     subst (λ x. Survives (state g.S.Store h) (state g.S.Store x) may) same survives

@@ -1,19 +1,31 @@
+use Rattle.std.proofs.Common.{rules}
 use Rattle.sqlite.specs.Held.{state}
 use Rattle.store.specs.Entering.{wanted_of, names_for}
 use Rattle.store.proofs.Entered.{blank, entered_new, may_new}
 use Rattle.store.proofs.opening.enter_new.Goals as goal
 
-pub returns-in_err-make-clause-crash : goal.returns-in_err-make-clause-crash
-returns-in_err-make-clause-crash g c ready none =
+pub returns-in_err-make : goal.returns-in_err-make
+returns-in_err-make g c =
     let old = state g.S.Store c.args.conn.now in
-    may_new (names_for (wanted_of c.args.only)) c.in_ok-following.following old (state g.S.Store c.make.new.conn) none c.in_ok-following.ensures.ok (c.make.ensures.crash (blank old ready none))
+    record {
+      entered = search rules;
+      turned = λ clean ready none. let rests = c.in_err-make.ensures.refused clean (blank old ready none) in search (rules, rests);
+      crash = λ ready none. may_new (names_for (wanted_of c.args.only)) c.in_ok-following.following old (state g.S.Store c.make.new.conn) none c.in_ok-following.ensures.ok (c.make.ensures.crash (blank old ready none));
+      fault = search rules;
+      clean = c.make.ensures.clean;
+      autocommit = c.make.ensures.autocommit;
+    }
 
-pub returns-clause-entered : goal.returns-clause-entered
-returns-clause-entered g c clean ready none =
+pub returns : goal.returns
+returns g c =
     let old = state g.S.Store c.args.conn.now in
-    entered_new (wanted_of c.args.only) c.in_ok-following.following c.new.result old (state g.S.Store c.make.new.conn) none c.in_ok-following.ensures.ok c.new.ensures (c.in_ok-make.ensures.made clean (blank old ready none))
-
-pub returns-clause-crash : goal.returns-clause-crash
-returns-clause-crash g c ready none =
-    let old = state g.S.Store c.args.conn.now in
-    may_new (names_for (wanted_of c.args.only)) c.in_ok-following.following old (state g.S.Store c.make.new.conn) none c.in_ok-following.ensures.ok (c.make.ensures.crash (blank old ready none))
+    let new = state g.S.Store c.make.new.conn in
+    let following = c.in_ok-following.following in
+    record {
+      entered = λ clean ready none. entered_new (wanted_of c.args.only) following c.new.result old new none c.in_ok-following.ensures.ok c.new.ensures (c.in_ok-make.ensures.made clean (blank old ready none));
+      turned = λ clean ready none. tt;
+      crash = λ ready none. may_new (names_for (wanted_of c.args.only)) following old new none c.in_ok-following.ensures.ok (c.make.ensures.crash (blank old ready none));
+      fault = tt;
+      clean = c.make.ensures.clean;
+      autocommit = c.make.ensures.autocommit;
+    }

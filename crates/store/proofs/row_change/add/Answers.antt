@@ -19,8 +19,4 @@ returns-clause-counted g c clean was stored =
     counted_since old mid (state g.S.Store c.raise.new.tx.conn.now) (key_in c.args.row.now) c.raise.result same (c.raise.ensures.counted clean (working_same old mid same was))
 
 pub returns-clause-stays : goal.returns-clause-stays
-returns-clause-stays g c =
-    let old = state g.S.Store c.args.tx.now.conn.now in
-    let mid = state g.S.Store c.insert.new.tx.conn.now in
-    stays_then old mid (state g.S.Store c.raise.new.tx.conn.now) c.in_ok-insert.ensures.stays
-    (λ early was. let same : IsUnchanged old mid = rw c.if-branch.false at (c.in_ok-insert.ensures.inserts early was) in working_same old mid same was) c.raise.ensures.stays
+returns-clause-stays g c = stays_then c.in_ok-insert.ensures.stays c.raise.ensures.stays

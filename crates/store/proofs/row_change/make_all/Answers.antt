@@ -1,9 +1,9 @@
-use Rattle.std.proofs.Common.{◌≡◌, ◌∷◌, None, Some, rules, arith, ap, length}
+use Rattle.std.proofs.Common.{◌≡◌, ◌∷◌, None, Some, arith, ap, length}
 use Rattle.sqlite.specs.State.{HasCleanDisk}
 use Rattle.sqlite.specs.Held.{state}
 use Rattle.gather.specs.View.{change_value}
 use Rattle.store.specs.Inside.{Does}
-use Rattle.store.proofs.Keeps.{stays_then}
+use Rattle.store.proofs.Keeps.{stays_then, stays_ok}
 use Rattle.store.proofs.Loop.{left_is, goes_under_way, is_refused}
 use Rattle.store.proofs.row_change.make_all.Goals as goal
 
@@ -14,7 +14,6 @@ loop-change-preserved g c =
     let change = change_value c.in-Some.change in
     let steps : left ≡ change ∷ c.next.new.self = c.in-Some.ensures.steps in
     record {
-      same_reference = search rules;
       left = left_is changes left c.loop-change.at change c.next.new.self c.loop-change.invariant.left steps;
       within = omega (arith, c.loop-change.invariant.within, ap length steps);
       under_way = λ clean was.
@@ -25,8 +24,7 @@ loop-change-preserved g c =
           let way = c.loop-change.invariant.under_way early was in
           let done : Does c.args.filter.now change mid new None = rw c.in_default.is at (c.in_ok-why.ensures.does clean way.0.on.working) in
           goes_under_way changes left c.loop-change.at change c.next.new.self c.loop-change.invariant.left steps c.args.filter.now old mid new way done;
-      stays = stays_then (state g.S.Store c.args.tx.now.conn.now) (state g.S.Store c.loop-change.tx.conn.now) (state g.S.Store c.step.new.tx.conn.now) c.loop-change.invariant.stays
-          (λ early was. (c.loop-change.invariant.under_way early was).0.on.working) c.step.ensures.stays;
+      stays = stays_ok (stays_then c.loop-change.invariant.stays c.in_ok-why.ensures.stays);
     }
 
 pub returns-in-Some-2-clause-does : goal.returns-in-Some-2-clause-does

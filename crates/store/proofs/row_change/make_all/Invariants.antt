@@ -1,14 +1,14 @@
 use Rattle.std.proofs.Common.{◌≡◌, ◌+◌, length, take, drop, None}
 use Rattle.sqlite.specs.State.{HasCleanDisk}
 use Rattle.sqlite.specs.Held.{state}
-use Rattle.store.specs.Inside.{IsWorking, DoesAll, Stays}
+use Rattle.store.specs.Inside.{IsWorking, DoesAll}
+use Rattle.store.proofs.Keeps.{HaveStayed}
 use Rattle.store.proofs.row_change.make_all.Given as goal
 
 abbrev pub invariant-loop-change : goal.invariant-loop-change
 invariant-loop-change g l = record {
-  same_reference : l.tx.conn.ghost_name ≡ l.fn.tx.conn.ghost_name;
   left : l.change-iterator ≡ drop l.at l.changes;
   within : l.at + length l.change-iterator ≡ length l.changes;
   under_way : HasCleanDisk (state g.S.Store l.tx.conn.now) → IsWorking (state g.S.Store l.fn.tx.conn.now) → DoesAll l.filter (take l.at l.changes) (state g.S.Store l.fn.tx.conn.now) (state g.S.Store l.tx.conn.now) None;
-  stays : Stays (state g.S.Store l.fn.tx.conn.now) (state g.S.Store l.tx.conn.now);
+  stays : HaveStayed g.S.Store l.fn.tx.conn l.tx.conn;
 }

@@ -22,8 +22,4 @@ returns-clause-counted g c clean was =
     counted_left old mid (state g.S.Store c.lower.new.tx.conn.now) key c.lower.result left.1 (c.lower.ensures.counted clean left.1.on.working (λ one. left.0 (ap (λ f. f key) (sym left.1.counts_are) ∙ one)))
 
 pub returns-clause-stays : goal.returns-clause-stays
-returns-clause-stays g c =
-    let old = state g.S.Store c.args.tx.now.conn.now in
-    let mid = state g.S.Store c.delete.new.tx.conn.now in
-    stays_then old mid (state g.S.Store c.lower.new.tx.conn.now) c.in_ok-delete.ensures.stays
-    (λ early was. let left : (count (held_rows old.now) (key_in c.args.row.now) ≢ 1) × HasCounts old mid (count (held_rows old.now)) = rw c.if-branch.false at (c.in_ok-delete.ensures.deletes early was) in left.1.on.working) c.lower.ensures.stays
+returns-clause-stays g c = stays_then c.in_ok-delete.ensures.stays c.lower.ensures.stays

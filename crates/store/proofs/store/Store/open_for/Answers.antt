@@ -13,26 +13,26 @@ returns-in-Ok g c =
     let new = state g.S.Store c.enter.new.conn in
     record {
       opens = λ clean ready.
-          let e = c.in-Ok.ensures.entered clean ready in
+          let e = c.in-Ok.ensures.enters.entered clean ready tt in
           record { content = e.content; of = e.of; wanted = e.wanted; holds = record { whole = refl; executed = e.executed_is; rest = e.rest } };
-      beside = λ clean ready. (c.in-Ok.ensures.entered clean ready).beside;
-      unchanged = λ clean ready. (c.in-Ok.ensures.entered clean ready).same;
+      beside = λ clean ready. (c.in-Ok.ensures.enters.entered clean ready tt).beside;
+      unchanged = λ clean ready. (c.in-Ok.ensures.enters.entered clean ready tt).same;
       turned = tt;
       headless = λ none some. let it = (c.in-Ok.ensures.headless none some).0 in absurd (cc);
       autocommit = tt;
-      crash = λ ready. c.enter.ensures.crash ready;
+      crash = λ ready. c.enter.ensures.enters.crash ready tt;
       left = tt;
       reopens = λ names content over clean.
           let sound : IsDatabase s.now = (c.enter.ensures.live over.is_open).0 in
-          let e = c.in-Ok.ensures.entered clean (left_ready (names_for wanted) names content s over.is_open over.settled sound over.left) in
+          let e = c.in-Ok.ensures.enters.entered clean (left_ready (names_for wanted) names content s over.is_open over.settled sound over.left) tt in
           let it = found_rest (names_for wanted) names content s over.is_open over.settled sound over.left new _ e.content e.of e.rest in
           (record { whole = refl; executed = e.executed_is ∙ ap (λ (a : Content). a.executed) it.2; rest = it.1 }, it.0, subst (IsWanted wanted) it.0 e.wanted);
       leaves = λ names content over.
           let sound : IsDatabase s.now = (c.enter.ensures.live over.is_open).0 in
           survives_again (names_for wanted) names content s over.is_open over.settled sound over.left new
-          (c.enter.ensures.crash (left_ready (names_for wanted) names content s over.is_open over.settled sound over.left));
+          (c.enter.ensures.enters.crash (left_ready (names_for wanted) names content s over.is_open over.settled sound over.left) tt);
       fault = tt;
-      clean = λ clean. c.enter.ensures.clean clean;
+      clean = λ clean. c.enter.ensures.enters.clean clean;
     }
 
 pub returns-in-Err : goal.returns-in-Err
@@ -44,19 +44,19 @@ returns-in-Err g c =
       opens = tt;
       beside = tt;
       unchanged = tt;
-      turned = λ clean ready. c.in-Err.ensures.turned clean ready;
+      turned = λ clean ready. c.in-Err.ensures.enters.turned clean ready tt;
       headless = λ none some. let it = c.in-Err.ensures.headless none some in search (rules, it);
-      autocommit = c.enter.ensures.autocommit;
+      autocommit = c.enter.ensures.enters.autocommit;
       crash = tt;
-      left = λ ready. c.enter.ensures.crash ready;
+      left = λ ready. c.enter.ensures.enters.crash ready tt;
       reopens = λ names content over clean.
           let sound : IsDatabase s.now = (c.enter.ensures.live over.is_open).0 in
           refused_for wanted names content s sound over.left c.in-Err.fault new
-          (c.in-Err.ensures.turned clean (left_ready (names_for wanted) names content s over.is_open over.settled sound over.left));
+          (c.in-Err.ensures.enters.turned clean (left_ready (names_for wanted) names content s over.is_open over.settled sound over.left) tt);
       leaves = λ names content over.
           let sound : IsDatabase s.now = (c.enter.ensures.live over.is_open).0 in
           survives_again (names_for wanted) names content s over.is_open over.settled sound over.left new
-          (c.enter.ensures.crash (left_ready (names_for wanted) names content s over.is_open over.settled sound over.left));
-      fault = c.in-Err.ensures.fault;
-      clean = λ clean. c.enter.ensures.clean clean;
+          (c.enter.ensures.enters.crash (left_ready (names_for wanted) names content s over.is_open over.settled sound over.left) tt);
+      fault = c.in-Err.ensures.enters.fault;
+      clean = λ clean. c.enter.ensures.enters.clean clean;
     }

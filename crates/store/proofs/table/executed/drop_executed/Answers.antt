@@ -1,8 +1,12 @@
 use Rattle.std.proofs.Common.{refl}
 use Rattle.sqlite.specs.Held.{state}
 use Rattle.store.proofs.Migrating.{done_drop}
+use Rattle.store.proofs.Keeps.{stays_executed}
 use Rattle.store.proofs.table.executed.drop_executed.Goals as goal
 
 pub returns-clause-migrated : goal.returns-clause-migrated
-returns-clause-migrated g c clean content was =
+returns-clause-migrated g c content clean was =
     done_drop content (state g.S.Store c.args.tx.now.conn.now) (state g.S.Store c.execute.new.self.conn.now) c.execute.result was (c.execute.ensures.runs clean (rw was.inside refl))
+
+pub returns-clause-stays : goal.returns-clause-stays
+returns-clause-stays g c = stays_executed g.S.Store c.args.tx.now.conn c.execute.new.self.conn _ _ c.execute.result c.execute.ensures.same_reference c.execute.ensures.ended c.execute.ensures.runs c.execute.ensures.survives

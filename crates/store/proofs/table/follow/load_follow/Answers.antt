@@ -1,15 +1,17 @@
 use Rattle.std.proofs.Common.{rules}
 use Rattle.sqlite.specs.Held.{state}
-use Rattle.store.proofs.Loading.{follow_table, on_seen}
+use Rattle.store.proofs.Loading.{follow_table, on_seen, judged_fault}
 use Rattle.store.proofs.table.follow.load_follow.Goals as goal
 
-pub returns-in_err-rows-clause-reads : goal.returns-in_err-rows-clause-reads
-returns-in_err-rows-clause-reads g c = record { judged = search rules; same = search rules; rested = search rules; crash = search rules }
+pub returns-in_err-rows : goal.returns-in_err-rows
+returns-in_err-rows g c = record { judged = search rules; same = search rules; rested = search rules; crash = search rules; fault = search rules; autocommit = search rules }
 
-pub returns-clause-reads : goal.returns-clause-reads
-returns-clause-reads g c = record {
-  judged = λ clean tree asks. follow_table ((state g.S.Store c.args.conn.now).now.trees tree) _ (c.in_ok-rows.ensures.rows clean tree asks) c.filter_from.result (rw c.deref.ensures.value at c.filter_from.ensures.judged);
+pub returns : goal.returns
+returns g c = record {
+  judged = λ clean tree asks. follow_table ((state g.S.Store c.args.conn.now).now.trees tree) _ (c.in_ok-rows.ensures.rows clean tree asks) c.filter_from.result (rw c.deref.ensures.value at c.filter_from.ensures);
   same = λ clean tree asks. on_seen c.filter_from.result (c.in_ok-rows.ensures.same clean tree asks);
   rested = search rules;
   crash = search rules;
+  fault = judged_fault _ _ c.filter_from.result (rw c.deref.ensures.value at c.filter_from.ensures);
+  autocommit = search rules;
 }

@@ -1,9 +1,10 @@
 use Rattle.std.proofs.Common.{[]}
+use Rattle.sqlite.specs.State.{HasCleanDisk}
 use Rattle.sqlite.specs.Held.{state}
-use Rattle.store.specs.Layout.{read_text}
+use Rattle.store.specs.Layout.{IsLaidOut, read_text}
 use Rattle.store.specs.Rows.{key_in}
 use Rattle.store.proofs.Selects.{key_params}
-use Rattle.store.proofs.Keeps.{opened_query, live_query}
+use Rattle.store.proofs.Keeps.{kept_query, opened_query, live_query}
 use Rattle.store.proofs.Steps.{clean_before}
 use Rattle.store.proofs.Counted.{find_read, find_same, find_survives, rests_read}
 use Rattle.store.proofs.table.held.find.Goals as goal
@@ -12,23 +13,22 @@ pub returns-clause-shown : goal.returns-clause-shown
 returns-clause-shown g c clean laid_out =
     find_read (state g.S.Store c.args.conn.now) (state g.S.Store c.query_all.new.self) (key_in c.args.row.now) laid_out (λ v. v.items) c.query_all.result (c.query_all.ensures.ok clean)
 
-pub returns-clause-same : goal.returns-clause-same
-returns-clause-same g c clean laid_out =
-    find_same (state g.S.Store c.args.conn.now) (state g.S.Store c.query_all.new.self) (key_in c.args.row.now) laid_out (λ v. v.items) c.query_all.result (c.query_all.ensures.ok clean)
-
-pub returns-clause-rests : goal.returns-clause-rests
-returns-clause-rests g c clean laid_out settled =
-    rests_read read_text (key_params (key_in c.args.row.now) []) (state g.S.Store c.args.conn.now) (state g.S.Store c.query_all.new.self) c.query_all.result settled (returns-clause-same g c clean laid_out) (c.query_all.ensures.err clean)
-
-pub returns-clause-survives : goal.returns-clause-survives
-returns-clause-survives g c laid_out =
-    find_survives (state g.S.Store c.args.conn.now) (state g.S.Store c.query_all.new.self) (key_in c.args.row.now) laid_out c.query_all.ensures.survives
-
-pub returns-clause-opened : goal.returns-clause-opened
-returns-clause-opened g c clean = opened_query (λ v. v.items) _ _ (state g.S.Store c.args.conn.now) (state g.S.Store c.query_all.new.self) c.query_all.result (c.query_all.ensures.ok clean) (c.query_all.ensures.err clean)
-
-pub returns-clause-live : goal.returns-clause-live
-returns-clause-live g c clean = live_query (λ v. v.items) _ _ (state g.S.Store c.args.conn.now) (state g.S.Store c.query_all.new.self) c.query_all.result (c.query_all.ensures.ok clean)
-
-pub returns-clause-clean : goal.returns-clause-clean
-returns-clause-clean g c clean = clean_before (state g.S.Store c.args.conn.now) (state g.S.Store c.query_all.new.self) _ c.query_all.ensures.survives clean
+pub returns-clause-looks : goal.returns-clause-looks
+returns-clause-looks g c =
+    let key = key_in c.args.row.now in
+    let old = state g.S.Store c.args.conn.now in
+    let new = state g.S.Store c.query_all.new.self in
+    let r = c.query_all.result in
+    let same = λ (clean : HasCleanDisk new) (laid : IsLaidOut old.now.schema). find_same old new key laid (λ v. v.items) r (c.query_all.ensures.ok clean) in
+    record {
+      same = same;
+      rested = λ clean laid. record {
+        commit = kept_query read_text (key_params key []) old new r (same clean laid) (c.query_all.ensures.err clean);
+        rests = λ settled. rests_read read_text (key_params key []) old new r settled (same clean laid) (c.query_all.ensures.err clean);
+      };
+      survives = λ laid. find_survives old new key laid c.query_all.ensures.survives;
+      opened = λ clean. opened_query (λ v. v.items) _ _ old new r (c.query_all.ensures.ok clean) (c.query_all.ensures.err clean);
+      live = λ clean. live_query (λ v. v.items) _ _ old new r (c.query_all.ensures.ok clean);
+      clean = λ clean. clean_before old new _ c.query_all.ensures.survives clean;
+      autocommit = c.query_all.ensures.mode;
+    }

@@ -3,8 +3,8 @@ use Rattle.sqlite.specs.Held.{state}
 use Rattle.store.specs.Layout.{insert_text}
 use Rattle.store.specs.Rows.{key_in}
 use Rattle.store.proofs.Selects.{key_params}
-use Rattle.store.proofs.Keeps.{stays_executed}
-use Rattle.store.proofs.Done.{done_inserted, done_insert}
+use Rattle.store.proofs.Keeps.{stays_inserted}
+use Rattle.store.proofs.Done.{taken, no_fault, done_inserted, done_insert}
 use Rattle.store.proofs.table.held.insert.Goals as goal
 
 pub returns-clause-inserts : goal.returns-clause-inserts
@@ -15,4 +15,4 @@ returns-clause-inserts g c clean was =
     done_inserted insert_text (key_params key []) (key ∷ []) old new c.execute-outcome.result c.inserted.result c.inserted.ensures.ok c.inserted.ensures.taken (done_insert old new key was) (c.execute-outcome.ensures.runs clean (rw was.inside refl))
 
 pub returns-clause-stays : goal.returns-clause-stays
-returns-clause-stays g c = stays_executed g.S.Store c.args.tx.now.conn.now c.execute-outcome.new.self.conn.now _ _ c.execute-outcome.result c.execute-outcome.ensures.ended c.execute-outcome.ensures.runs c.execute-outcome.ensures.survives
+returns-clause-stays g c = stays_inserted g.S.Store c.args.tx.now.conn c.execute-outcome.new.self.conn _ _ c.execute-outcome.result c.execute-outcome.ensures.same_reference c.execute-outcome.ensures.ended c.execute-outcome.ensures.runs c.execute-outcome.ensures.survives c.inserted.result taken no_fault c.inserted.ensures.ok c.inserted.ensures.taken

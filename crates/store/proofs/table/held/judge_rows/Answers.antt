@@ -9,9 +9,7 @@ pub rows-init : goal.rows-init
 rows-init g c =
     let h = c.args.rows.now.conn.now in
     record {
-      same_reference = refl;
-      autocommit = λ outside. outside;
-      survives = survives_self (state g.S.Store h);
+      reads = record { same_reference = refl; survives = survives_self (state g.S.Store h); autocommit = λ outside. outside };
       rested = λ clean. rested_self (state g.S.Store h);
       judging = λ clean sql given. judging_none g.S.Store sql h given;
     }

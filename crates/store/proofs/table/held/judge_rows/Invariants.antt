@@ -1,8 +1,8 @@
-use Rattle.std.proofs.Common.{◌≡◌, ℕ, List, [], false}
-use Rattle.sqlite.specs.State.{HasCleanDisk, Survives}
+use Rattle.std.proofs.Common.{ℕ, List, []}
+use Rattle.sqlite.specs.State.{HasCleanDisk}
 use Rattle.sqlite.specs.Held.{state}
 use Rattle.sqlite.specs.Given.{HasGiven}
-use Rattle.store.specs.Load.{Rested, IsJudging}
+use Rattle.store.specs.Load.{ReadsOn, Rested, IsJudging}
 use Rattle.store.proofs.table.held.judge_rows.Given as goal
 
 abbrev pub invariant-rows : goal.invariant-rows
@@ -10,9 +10,7 @@ invariant-rows g l =
     let old = l.fn.rows.conn.now in
     let now = l.rows.conn.now in
     record {
-      same_reference : l.rows.conn.ghost_name ≡ l.fn.rows.conn.ghost_name;
-      autocommit : old.in_transaction ≡ false → now.in_transaction ≡ false;
-      survives : Survives (state g.S.Store old) (state g.S.Store now) (λ _. ⊥);
+      reads : ReadsOn g.S.Store l.fn.rows.conn l.rows.conn;
       rested : HasCleanDisk (state g.S.Store now) → Rested (state g.S.Store old) (state g.S.Store now);
       judging : HasCleanDisk (state g.S.Store now) → (sql : List ℕ) → HasGiven g.S.Store sql [] old [] → IsJudging g.S.Store sql old now l.verdict;
     }

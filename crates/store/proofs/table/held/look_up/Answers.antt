@@ -1,8 +1,5 @@
-use Rattle.std.proofs.Common.{[]}
 use Rattle.sqlite.specs.Held.{state}
-use Rattle.store.specs.Layout.{read_text}
 use Rattle.store.specs.Rows.{key_in}
-use Rattle.store.proofs.Selects.{key_params}
 use Rattle.store.proofs.Done.{done_read, done_same}
 use Rattle.store.proofs.Keeps.{stays_shown}
 use Rattle.store.proofs.table.held.look_up.Goals as goal
@@ -16,5 +13,4 @@ returns-clause-same g c clean was =
     done_same (state g.S.Store c.args.tx.now.conn.now) (state g.S.Store c.query_all.new.self.conn.now) (key_in c.args.row.now) was (λ v. v.items) c.query_all.result (c.query_all.ensures.ok clean)
 
 pub returns-clause-stays : goal.returns-clause-stays
-returns-clause-stays g c = stays_shown (λ v. v.items) read_text (key_params (key_in c.args.row.now) []) (state g.S.Store c.args.tx.now.conn.now) (state g.S.Store c.query_all.new.self.conn.now) c.query_all.result
-    c.query_all.ensures.ok c.query_all.ensures.err (returns-clause-same g c) c.query_all.ensures.survives
+returns-clause-stays g c = stays_shown g.S.Store c.args.tx.now.conn c.query_all.new.self.conn (λ v. v.items) _ _ c.query_all.result c.query_all.ensures.same_reference c.query_all.ensures.ok c.query_all.ensures.err c.query_all.ensures.survives

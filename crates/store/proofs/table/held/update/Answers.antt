@@ -17,4 +17,4 @@ returns-clause-lowered g c clean was m low high found is =
     (rw (to_z-of_z w64 c.args.n c.ranges.n) at (c.execute.ensures.runs clean (rw was.inside refl)))
 
 pub returns-clause-stays : goal.returns-clause-stays
-returns-clause-stays g c = stays_executed g.S.Store c.args.tx.now.conn.now c.execute.new.self.conn.now _ _ c.execute.result c.execute.ensures.ended c.execute.ensures.runs c.execute.ensures.survives
+returns-clause-stays g c = stays_executed g.S.Store c.args.tx.now.conn c.execute.new.self.conn _ _ c.execute.result c.execute.ensures.same_reference c.execute.ensures.ended c.execute.ensures.runs c.execute.ensures.survives

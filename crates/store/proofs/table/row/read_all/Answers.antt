@@ -1,30 +1,25 @@
+use Rattle.std.proofs.Common.{ℕ}
+use Rattle.sqlite.specs.State.{HasCleanDisk}
 use Rattle.sqlite.specs.Held.{state}
+use Rattle.store.specs.Load.{AsksAll}
 use Rattle.store.proofs.Keeps.{opened_query, live_query}
 use Rattle.store.proofs.Readings.{all_rows, all_ascend, all_same, all_rests, all_survives}
 use Rattle.store.proofs.table.row.read_all.Goals as goal
 
-pub returns-clause-same : goal.returns-clause-same
-returns-clause-same g c clean tree asks =
-    all_same c.args.sql.now tree (state g.S.Store c.args.conn.now) (state g.S.Store c.query_all.new.self) asks (λ v. v.items) c.query_all.result (c.query_all.ensures.ok clean)
-
-pub returns-clause-rows : goal.returns-clause-rows
-returns-clause-rows g c clean tree asks =
-    all_rows c.args.sql.now tree (state g.S.Store c.args.conn.now) (state g.S.Store c.query_all.new.self) asks (λ v. v.items) c.query_all.result c.schema.ensures.live (returns-clause-same g c clean tree asks) (c.query_all.ensures.ok clean)
-
-pub returns-clause-rested : goal.returns-clause-rested
-returns-clause-rested g c clean tree asks =
-    all_rests c.args.sql.now tree (state g.S.Store c.args.conn.now) (state g.S.Store c.query_all.new.self) asks c.query_all.result (returns-clause-same g c clean tree asks) (c.query_all.ensures.err clean)
-
-pub returns-clause-crash : goal.returns-clause-crash
-returns-clause-crash g c =
-    all_survives c.args.sql.now (state g.S.Store c.args.conn.now) (state g.S.Store c.query_all.new.self) c.query_all.ensures.survives
-
-pub returns-clause-opened : goal.returns-clause-opened
-returns-clause-opened g c clean = opened_query (λ v. v.items) _ _ (state g.S.Store c.args.conn.now) (state g.S.Store c.query_all.new.self) c.query_all.result (c.query_all.ensures.ok clean) (c.query_all.ensures.err clean)
-
-pub returns-clause-live : goal.returns-clause-live
-returns-clause-live g c clean = live_query (λ v. v.items) _ _ (state g.S.Store c.args.conn.now) (state g.S.Store c.query_all.new.self) c.query_all.result (c.query_all.ensures.ok clean)
-
-pub returns-clause-ascend : goal.returns-clause-ascend
-returns-clause-ascend g c clean tree asks =
-    all_ascend c.args.sql.now tree (state g.S.Store c.args.conn.now) (state g.S.Store c.query_all.new.self) asks (λ v. v.items) c.query_all.result c.schema.ensures.live (returns-clause-same g c clean tree asks) (c.query_all.ensures.ok clean)
+pub returns : goal.returns
+returns g c =
+    let sql = c.args.sql.now in
+    let old = state g.S.Store c.args.conn.now in
+    let new = state g.S.Store c.query_all.new.self in
+    let r = c.query_all.result in
+    let same = λ (clean : HasCleanDisk new) (tree : ℕ) (asks : AsksAll old.now.schema sql tree). all_same sql tree old new asks (λ v. v.items) r (c.query_all.ensures.ok clean) in
+    record {
+      rows = λ clean tree asks. all_rows sql tree old new asks (λ v. v.items) r c.schema.ensures.live (same clean tree asks) (c.query_all.ensures.ok clean);
+      ascend = λ clean tree asks. all_ascend sql tree old new asks (λ v. v.items) r c.schema.ensures.live (same clean tree asks) (c.query_all.ensures.ok clean);
+      same = same;
+      rested = λ clean tree asks. all_rests sql tree old new asks r (same clean tree asks) (c.query_all.ensures.err clean);
+      crash = all_survives sql old new c.query_all.ensures.survives;
+      opened = λ clean. opened_query (λ v. v.items) _ _ old new r (c.query_all.ensures.ok clean) (c.query_all.ensures.err clean);
+      live = λ clean. live_query (λ v. v.items) _ _ old new r (c.query_all.ensures.ok clean);
+      autocommit = c.query_all.ensures.mode;
+    }

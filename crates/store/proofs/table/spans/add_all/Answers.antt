@@ -1,14 +1,13 @@
-use Rattle.std.proofs.Common.{subst, rules, arith}
+use Rattle.std.proofs.Common.{subst, arith}
 use Rattle.sqlite.specs.State.{HasCleanDisk}
 use Rattle.sqlite.specs.Held.{state}
 use Rattle.store.specs.Inside.{HasLeft}
-use Rattle.store.proofs.Keeps.{stays_then}
+use Rattle.store.proofs.Keeps.{stays_then, stays_ok}
 use Rattle.store.proofs.SpanLists.{left_less}
 use Rattle.store.proofs.table.spans.add_all.Goals as goal
 
 pub loop-span-preserved : goal.loop-span-preserved
 loop-span-preserved g c = record {
-  same_reference = search rules;
   sources = λ rest. c.loop-span.invariant.sources (rw c.in-Some.ensures.steps (c.add.ensures.source, rest));
   under_way = λ clean was.
       let old = state g.S.Store c.args.tx.now.conn.now in
@@ -18,6 +17,5 @@ loop-span-preserved g c = record {
       let way = c.loop-span.invariant.under_way early was in
       left_less old mid new c.args.spans c.next.new.self c.in-Some.span (subst (HasLeft old mid c.args.spans) c.in-Some.ensures.steps way)
       (c.in_ok-add.ensures.moves clean way.on.working);
-  stays = stays_then (state g.S.Store c.args.tx.now.conn.now) (state g.S.Store c.loop-span.tx.conn.now) (state g.S.Store c.add.new.tx.conn.now) c.loop-span.invariant.stays
-      (λ early was. (c.loop-span.invariant.under_way early was).on.working) c.add.ensures.stays;
+  stays = stays_ok (stays_then c.loop-span.invariant.stays c.in_ok-add.ensures.stays);
 }

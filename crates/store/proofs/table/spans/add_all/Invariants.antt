@@ -1,15 +1,14 @@
-use Rattle.std.proofs.Common.{◌≡◌}
 use Rattle.std.specs.List.{AllByRecursion}
 use Rattle.gtid.specs.Identifier.{IsSource}
 use Rattle.sqlite.specs.State.{HasCleanDisk}
 use Rattle.sqlite.specs.Held.{state}
-use Rattle.store.specs.Inside.{IsWorking, HasLeft, Stays}
+use Rattle.store.specs.Inside.{IsWorking, HasLeft}
+use Rattle.store.proofs.Keeps.{HaveStayed}
 use Rattle.store.proofs.table.spans.add_all.Given as goal
 
 abbrev pub invariant-loop-span : goal.invariant-loop-span
 invariant-loop-span g l = record {
-  same_reference : l.tx.conn.ghost_name ≡ l.fn.tx.conn.ghost_name;
   sources : AllByRecursion (λ s. IsSource s.source) l.span-iterator → AllByRecursion (λ s. IsSource s.source) l.fn.spans;
   under_way : HasCleanDisk (state g.S.Store l.tx.conn.now) → IsWorking (state g.S.Store l.fn.tx.conn.now) → HasLeft (state g.S.Store l.fn.tx.conn.now) (state g.S.Store l.tx.conn.now) l.fn.spans l.span-iterator;
-  stays : Stays (state g.S.Store l.fn.tx.conn.now) (state g.S.Store l.tx.conn.now);
+  stays : HaveStayed g.S.Store l.fn.tx.conn l.tx.conn;
 }

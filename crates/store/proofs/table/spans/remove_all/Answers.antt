@@ -1,9 +1,9 @@
-use Rattle.std.proofs.Common.{subst, rules, arith}
+use Rattle.std.proofs.Common.{subst, arith}
 use Rattle.sqlite.specs.State.{HasCleanDisk}
 use Rattle.sqlite.specs.Held.{state}
 use Rattle.store.specs.Rows.{span_rows}
 use Rattle.store.specs.Inside.{AreRowsOf}
-use Rattle.store.proofs.Keeps.{stays_then}
+use Rattle.store.proofs.Keeps.{stays_then, stays_ok}
 use Rattle.store.proofs.Made.{goes_then}
 use Rattle.store.proofs.SpanLists.{one_removed}
 use Rattle.store.proofs.table.spans.remove_all.Goals as goal
@@ -14,7 +14,6 @@ loop-span-preserved g c =
     let mid = state g.S.Store c.loop-span.tx.conn.now in
     let new = state g.S.Store c.remove.new.tx.conn.now in
     record {
-      same_reference = search rules;
       goes = λ clean was.
           let early : HasCleanDisk mid = omega (arith, c.remove.ensures.stays.survives.clean) in
           let so_far = c.loop-span.invariant.goes early was in
@@ -24,5 +23,5 @@ loop-span-preserved g c =
           let so_far = c.loop-span.invariant.left early was lists in
           let there = subst (AreRowsOf (span_rows mid.now)) c.in-Some.ensures.steps so_far.0 in
           one_removed old mid new c.in-Some.span c.next.new.self there so_far.1 (c.in_ok-remove.ensures.moves clean (c.loop-span.invariant.goes early was).working c.next.new.self there);
-      stays = stays_then old mid new c.loop-span.invariant.stays (λ early was. (c.loop-span.invariant.goes early was).working) c.remove.ensures.stays;
+      stays = stays_ok (stays_then c.loop-span.invariant.stays c.in_ok-remove.ensures.stays);
     }

@@ -2,7 +2,8 @@ use Rattle.std.proofs.Common.{◌≡◌}
 use Rattle.sqlite.specs.State.{HasCleanDisk}
 use Rattle.sqlite.specs.Held.{state}
 use Rattle.store.specs.Rows.{span_rows, held_rows}
-use Rattle.store.specs.Inside.{IsWorking, StaysOpen, AreRowsOf, Stays}
+use Rattle.store.specs.Inside.{IsWorking, StaysOpen, AreRowsOf}
+use Rattle.store.proofs.Keeps.{HaveStayed}
 use Rattle.store.proofs.table.spans.remove_all.Given as goal
 
 abbrev pub invariant-loop-span : goal.invariant-loop-span
@@ -10,8 +11,7 @@ invariant-loop-span g l =
     let old = state g.S.Store l.fn.tx.conn.now in
     let new = state g.S.Store l.tx.conn.now in
     record {
-      same_reference : l.tx.conn.ghost_name ≡ l.fn.tx.conn.ghost_name;
       goes : HasCleanDisk new → IsWorking old → StaysOpen old new;
       left : HasCleanDisk new → IsWorking old → AreRowsOf (span_rows old.now) l.fn.spans → AreRowsOf (span_rows new.now) l.span-iterator × (held_rows new.now ≡ held_rows old.now);
-      stays : Stays old new;
+      stays : HaveStayed g.S.Store l.fn.tx.conn l.tx.conn;
     }

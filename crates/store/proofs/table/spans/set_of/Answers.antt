@@ -7,7 +7,7 @@ use Rattle.store.proofs.table.spans.set_of.Goals as goal
 pub returns-then-not-are_apart-clause-judged : goal.returns-then-not-are_apart-clause-judged
 returns-then-not-are_apart-clause-judged c =
     let e = c.in_order-spans.ensures in
-    set_damaged c.args.spans.items _ e.same e.rise (lawful_sorted c.args.spans.items _ e.same c.requires) (sym (rw c.deref.ensures.value at c.are_apart.ensures) ∙ c.if-not-are_apart.true)
+    (tt, set_damaged c.args.spans.items _ e.same e.rise (lawful_sorted c.args.spans.items _ e.same c.requires) (sym (rw c.deref.ensures.value at c.are_apart.ensures) ∙ c.if-not-are_apart.true))
 
 pub union_of-requires : goal.union_of-requires
 union_of-requires c = lawful_sorted c.args.spans.items _ c.in_order-spans.ensures.same c.requires
