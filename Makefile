@@ -1,7 +1,7 @@
 # make demo   shows the main job from the sources, in some two minutes, and proves nothing: a captured stream is replayed
 #             into a new database, whose rows and executed set are shown
 # make        proves and builds mrep, puts it at bin/mrep, and runs it on a sample. What it has proved is not proved again
-#             by `make test`
+#             by `make test` where the toolchain keeps it, as rattle-kit-13f does and rattle-kit-13b does not
 # make install, make uninstall
 #             puts bin/mrep, the page mrep.1, completions, the pages and a systemd unit below PREFIX (/usr/local), with
 #             DESTDIR before it; and removes them

@@ -16,11 +16,12 @@ use Rattle.store.specs.declared.store.Store.{Store}
 use Rattle.store.specs.Store.{Holds, database}
 use Rattle.store.specs.Entering.{IsLeft}
 use Rattle.replica.specs.declared.clearing.ClearEnd.{ClearEnd}
-use Rattle.replica.specs.Noted.{Account}
+use Rattle.replica.specs.Noted.{Account, IsLeftOfNoted}
 use Rattle.replica.specs.File.{KeepsContent}
 use Rattle.replica.specs.NotedFile.{IsNotedOfFiles}
 use Rattle.replica.specs.Clear.{IsLeftOfClear}
-use Rattle.replica.specs.Clearing.{HasStayed, HasCleared, IsClearedSinceOpening}
+use Rattle.replica.specs.Over.{HasStayed}
+use Rattle.replica.specs.Clearing.{HasCleared, IsClearedSinceOpening}
 use Rattle.replica.specs.ClearFile.{ClearsFile}
 use Rattle.replica.proofs.Closed.{closed_with, may_hold}
 use Rattle.replica.proofs.ClearStore.{as_held}
@@ -84,4 +85,4 @@ module _ {D : Type 0} (g : Ghosts D) (names : Names) (old : Content) (opened aft
       let clean : HasCleanDisk (database over_files after) = omega (arith, quiet.clean, honest) in
       let o = opens clean in
       let a = subst (λ n. IsClearedSinceOpening over_files n after old t0 t1) o.1 (notes clean old o.0) in
-      (a.new, a.noted_of)
+      (a.new, a.noted_of, may_hold g names after (same ∙ o.1) a.schema (IsLeftOfNoted names a.noted_of.noted_of.notices a.new) e.1 (λ trees may. quiet.outcomes trees may) a.leaves)

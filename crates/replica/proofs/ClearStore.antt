@@ -25,7 +25,7 @@ use Rattle.store.specs.declared.listing.ListError.{ListError}
 use Rattle.store.specs.declared.listing.ListError.TheVariants.{Store as StoreError, Visitor as VisitorError}
 use Rattle.store.specs.declared.store.Store.{Store}
 use Rattle.store.specs.Apply.{IsAtRest}
-use Rattle.store.specs.Store.{Holds, HoldsAs, AreOf}
+use Rattle.store.specs.Store.{Holds, HasFailed, HoldsAs, AreOf}
 use Rattle.replica.specs.declared.connections.NoMemory.{NoMemory}
 use Rattle.replica.specs.declared.end.Refusal.TheVariants.{NoSuchRow, CountFull}
 use Rattle.replica.specs.declared.end.Reason.{Reason}
@@ -33,12 +33,13 @@ use Rattle.replica.specs.declared.end.Reason.TheVariants.{EndOfInput, SourceEof,
 use Rattle.replica.specs.declared.clearing.ClearEnd.{ClearEnd}
 use Rattle.replica.specs.declared.clearing.ClearEnd.TheVariants.{Repeat, NotFollowed, Failed}
 use Rattle.replica.specs.declared.clearing.TableRows.{TableRows}
-use Rattle.replica.specs.Noted.{Account, HasBeenNoted, StillWaits, WereMissed, opened, IsNotedSinceOpening, IsLedTo, IsLedSinceOpening}
+use Rattle.replica.specs.Noted.{Account, HasBeenNoted, StillWaits, WereMissed, opened, has_failure, IsLeftOfNoted, IsNotedSinceOpening, IsLedOver, IsLedSinceOpening}
 use Rattle.replica.specs.Alone.{TakesAlone, IsOwnOrHalted}
 use Rattle.replica.specs.Clear.{IsCleared, is_in_table, IsToBeCleared, MayEndClear}
-use Rattle.replica.specs.Clearing.{deletes_of, AreDeletesOf, AppendsDeletes, TakesRow, gathered_of, end_by, HasStayed, ListsDeletes, HasCleared, IsClearedSinceOpening}
+use Rattle.replica.specs.Over.{HasStayed}
+use Rattle.replica.specs.Clearing.{deletes_of, AreDeletesOf, AppendsDeletes, TakesRow, gathered_of, end_by, ListsDeletes, HasCleared, IsClearedSinceOpening}
 use Rattle.replica.proofs.Cleared.{others_stay, all_gone, none_refused, as_many}
-use Rattle.replica.proofs.Noted.{since_through}
+use Rattle.replica.proofs.Noted.{weaker_leaves, since_through}
 use Rattle.replica.proofs.Taking.{whole_leaves}
 
 -- ---- Rows that are listed.
@@ -102,12 +103,12 @@ admits_by names following schema table answer known same says is = ap (λ (n : N
 
 -- ---- What was reported.
 
-opened_missed : (was is : Option Ids) (executed : Ids) → StillWaits was (opened executed ∷ []) is → WereMissed was (opened executed ∷ []) is
+pub opened_missed : (was is : Option Ids) (executed : Ids) → StillWaits was (opened executed ∷ []) is → WereMissed was (opened executed ∷ []) is
 opened_missed was None executed waits = tt
 opened_missed None (Some is) executed waits = absurd waits
 opened_missed (Some was) (Some is) executed waits = tt
 
-pub opened_noted : (names : Names) (old : Content) (ids : Ids) (was is : Account) → ids ≡ old.executed → HasBeenNoted was.noted is.noted (opened ids ∷ []) → (was.has_stopped ≡ true → is.has_stopped ≡ true) → StillWaits was.waits (opened ids ∷ []) is.waits
+abbrev pub opened_noted : (names : Names) (old : Content) (ids : Ids) (was is : Account) → ids ≡ old.executed → HasBeenNoted was.noted is.noted (opened ids ∷ []) → (was.has_stopped ≡ true → is.has_stopped ≡ true) → StillWaits was.waits (opened ids ∷ []) is.waits
     → IsNotedSinceOpening names old old was is []
 opened_noted names old ids was is same notes stays waits = record {
   noted_of = record {
@@ -124,6 +125,7 @@ opened_noted names old ids was is same notes stays waits = record {
   };
   begins = same;
   missed = λ some. absurd (some refl);
+  fails = tt;
 }
 
 -- ---- A store.
@@ -137,32 +139,39 @@ module _ {S : Type 0} (g : Ghosts S) where
   ]
 
   weaker : (store : Store S g) (content : Content) (P Q : Content → Type 0) → ((left : Content) → P left → Q left) → HasStayed g store content P → HasStayed g store content Q
-  weaker store content P Q more it = record {
-    executed = it.executed;
-    rest = it.rest;
-    schema = it.schema;
-    leaves = record { each = λ trees may. let l = it.leaves.each trees may in (l.0, l.1, more l.0 l.2) };
-  }
-
-  led_as : (is : Bool) (names : Names) (old new : Content) (after : Store S g) (t0 t2 : Account) → HoldsAs g is new after → IsNotedSinceOpening names old new t0 t2 [] → IsClearedSinceOpening g names after old t0 t2
-  led_as false names old new after t0 t2 holds noted = record { new = new; executed = holds.executed; rest = λ is_open. holds.rest; noted_of = noted }
-  led_as true names old new after t0 t2 holds noted = record { new = new; executed = holds.executed; rest = holds.rest; noted_of = noted }
+  weaker store content P Q more it = record { executed = it.executed; rest = it.rest; schema = it.schema; leaves = weaker_leaves g it.schema store P Q more it.leaves }
 
   -- nothing was reported but the opening
-  pub led_opened : (names : Names) (old : Content) (after : Store S g) (t0 t1 : Account) → after.executed ≡ old.executed → (IsTrue (state g after.conn).is_open → IsAtRest (state g after.conn) after.following old) → IsNotedSinceOpening names old old t0 t1 [] → IsClearedSinceOpening g names after old t0 t1
-  led_opened names old after t0 t1 same rest noted = record { new = old; executed = same; rest = rest; noted_of = noted }
-
-  -- and a transaction
-  pub led_applied : (first middle last : Store S g) (old : Content) (t0 t1 t2 : Account) → middle.following ≡ first.following → Holds g middle old → IsNotedSinceOpening first.following old old t0 t1 [] → ((is : Bool) (now : Content) → HoldsAs g is now middle → IsLedTo g middle last is now t1 t2 [])
-      → IsClearedSinceOpening g first.following last old t0 t2
-  led_applied first middle last old t0 t1 t2 same holds noted led =
-      let opens : IsLedSinceOpening g first middle false old t0 t1 [] = record { now_broken = false; new = old; holds = holds; noted_of = noted } in
-      let all = since_through g false old first middle last t0 t1 t2 [] [] same (λ some. absurd (some refl)) opens led (λ some. absurd (some refl)) in
-      led_as all.now_broken first.following old all.new last t0 t2 all.holds all.noted_of
+  pub led_opened : (names : Names) (old : Content) (after : Store S g) (t0 t1 : Account) → HasStayed g after old (λ left. left ≡ old) → IsNotedSinceOpening names old old t0 t1 [] → IsClearedSinceOpening g names after old t0 t1
+  led_opened names old after t0 t1 it noted = record {
+    new = old;
+    executed = it.executed;
+    rest = it.rest;
+    noted_of = noted;
+    schema = it.schema;
+    leaves = weaker_leaves g it.schema after (λ left. left ≡ old) (IsLeftOfNoted names noted.noted_of.notices old) (λ left same. inl same) it.leaves;
+  }
 
 module _ {S : Type 0} (g : Ghosts S) (settled : (h : Held S) (db : Trees) → IsTrue (state g h).is_open → (state g h).may_leave db → db ≡ (state g h).committed.trees) where
   pub stays_whole : (store : Store S g) (content : Content) (P : Content → Type 0) → P content → Holds g store content → HasStayed g store content P
   stays_whole store content P is holds = record { executed = holds.executed; rest = λ is_open. holds.rest; schema = (state g store.conn).now.schema; leaves = whole_leaves g settled content store P is holds }
+
+  -- and a transaction
+  led_as : (first last : Store S g) (old : Content) (t0 t2 : Account) → (a : IsLedSinceOpening g first last false old t0 t2 []) → (is : Bool) → a.now_broken ≡ is → IsClearedSinceOpening g first.following last old t0 t2
+  led_as first last old t0 t2 a false is =
+      let whole : Holds g last a.new = subst (λ (b : Bool). HoldsAs g b a.new last) is a.holds in
+      record { new = a.new; executed = whole.executed; rest = λ is_open. whole.rest; noted_of = a.noted_of; schema = (state g last.conn).now.schema; leaves = whole_leaves g settled a.new last (IsLeftOfNoted first.following a.noted_of.noted_of.notices a.new) (inl refl) whole }
+  led_as first last old t0 t2 a true is =
+      let failed : HasFailed g last a.new = subst (λ (b : Bool). HoldsAs g b a.new last) is a.holds in
+      let l = a.leaves refl is in
+      record { new = a.new; executed = failed.executed; rest = failed.rest; noted_of = a.noted_of; schema = l.0; leaves = l.1 }
+
+  pub led_applied : (first middle last : Store S g) (old : Content) (t0 t1 t2 : Account) → middle.following ≡ first.following → Holds g middle old → (noted : IsNotedSinceOpening first.following old old t0 t1 []) → has_failure noted.noted_of.notices ≡ false
+      → ((is : Bool) (now : Content) → HoldsAs g is now middle → IsLedOver g middle last is now t1 t2 []) → IsClearedSinceOpening g first.following last old t0 t2
+  led_applied first middle last old t0 t1 t2 same holds noted whole led =
+      let opens : IsLedSinceOpening g first middle false old t0 t1 [] = record { now_broken = false; new = old; holds = holds; noted_of = noted; breaks = λ f. absurd (false≢true (sym whole ∙ f)); leaves = λ fresh bad. absurd (false≢true bad) } in
+      let all = since_through g false old first middle last t0 t1 t2 [] [] same (λ some. absurd (some refl)) opens led (λ some. absurd (some refl)) in
+      led_as first last old t0 t2 all all.now_broken refl
 
   -- the rows of the table are listed
   lists_by : (schema table : List ℕ) (before after : Store S g) (content : Content) (v w : TableRows) (listed : Result (Unit {0}) (ListError NoMemory)) → v.changes ≡ [] → v.table.value.schema.items ≡ schema → v.table.value.table.items ≡ table → after.following ≡ before.following

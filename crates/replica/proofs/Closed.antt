@@ -1,10 +1,13 @@
 -- Captured connections that were read into a file.
-use Rattle.std.proofs.Common.{◌≡◌, ℕ, Bool, true, false, List, Option, Some, Result, Ok, Err, IfOk, IfErr, IsTrue, refl, sym, subst, ◌∙◌, arith}
+use Rattle.std.proofs.Common.{◌≡◌, ℕ, Bool, true, false, List, Option, Some, Result, Ok, Err, IfOk, IfErr, IsTrue, inl, inr, refl, sym, subst, ◌∙◌, arith}
 use Rattle.std.specs.Prelude.{MatchResult}
 use Rattle.sqlite_disk.specs.declared.Disk.{Ghosts}
 use Rattle.sqlite_disk.specs.declared.Files.{Files}
 use Rattle.sqlite_wal.specs.Recovery.{Image}
 use Rattle.sqlite_wal.specs.Reads.{AreClean}
+use Rattle.sqlite_wal.proofs.LogLemmas.{SeenMayStay}
+use Rattle.sqlite_store.specs.Laws.{settled_at}
+use Rattle.std.proofs.lemmas.Bool.{cases_Bool}
 use Rattle.sqlite_trees.specs.Tree.{Trees}
 use Rattle.sqlite_trees.specs.View.{IsClean}
 use Rattle.sqlite_schema.specs.declared.schema.Schema.{Schema}
@@ -33,9 +36,10 @@ use Rattle.replica.specs.Settings.{Settings}
 use Rattle.replica.specs.Crash.{IsLeftOfAll}
 use Rattle.replica.specs.Crash as crash
 use Rattle.replica.specs.Over.{HasReadAll, LeavesOnly}
+use Rattle.replica.proofs.Taking.{whole_leaves}
 use Rattle.replica.specs.Capture.{Reads}
 use Rattle.replica.specs.File.{FilesHold, AreClosedWith, LeavesContent, IsOpenedIn, IsCleanlyClosed, WasClosed, ClosesAs, KeepsContent}
-use Rattle.replica.specs.Noted.{Account, IsNotedSinceOpening, IsLedSinceOpening}
+use Rattle.replica.specs.Noted.{Account, IsNotedSinceOpening, IsLedSinceOpening, IsLeftOfNoted}
 use Rattle.replica.specs.NotedFile.{IsNotedOfFiles, HaveReached}
 use Rattle.replica.specs.Missing.{waits_for_none}
 use Rattle.replica.specs.Replay.{LeadsTo, MayLeave}
@@ -192,24 +196,39 @@ module _ {D : Type 0} (g : Ghosts D) (names : Names) (old : Content) (opened aft
       let stayed = stays (opens clean).0 in
       left_there (subst (λ (s : Store (FileStore D g) over_files). HasCleanDisk (database over_files s)) stayed clean) trees (subst (λ (s : Store (FileStore D g) over_files). (database over_files s).may_leave trees) stayed (quiet.outcomes trees may))
 
+  -- what a crash leaves of a store that has failed or not
+  left_since : SeenMayStay g → (t0 t1 : Account) (ends : List Ended) → (a : IsLedSinceOpening over_files opened after false old t0 t1 ends)
+      → (schema : Schema) × LeavesOnly over_files schema after (IsLeftOfNoted opened.following a.noted_of.noted_of.notices a.new)
+  left_since still t0 t1 ends a = elim (cases_Bool a.now_broken) [
+    | inl failed ↦ a.leaves refl failed
+    | inr whole ↦ (
+      (file_state after.conn).now.schema,
+      whole_leaves over_files (λ h db is_open left. settled_at h.store still db is_open left) a.new after (IsLeftOfNoted opened.following a.noted_of.noted_of.notices a.new) (inl refl)
+          (subst (λ (b : Bool). HoldsAs over_files b a.new after) whole a.holds),
+    )
+  ]
+
   -- what was reported to an observer leads to what closed files hold
-  pub noted_of_files : (t0 t1 : Account) (ends : List Ended) (closed : Result (Files D) (Error × FileStore D g))
+  pub noted_of_files : SeenMayStay g → (t0 t1 : Account) (ends : List Ended) (closed : Result (Files D) (Error × FileStore D g))
       → after.following ≡ opened.following → (HasCleanDisk (database over_files after) → Holds over_files opened old × (opened.following ≡ names))
       → (HasCleanDisk (database over_files after) → (was : Bool) (content : Content) → HoldsAs over_files was content opened → IsLedSinceOpening over_files opened after was content t0 t1 ends)
       → IfOk closed (λ files. AreClean g files.log files.db → IsCopied after.conn files)
       → IfErr closed (λ e. IsClosed after.conn e.1 × (IsClean (view e.1) → FailsToClose after.conn e.1 e.0))
       → IsNotedOfFiles names old t0 t1 ends closed
-  noted_of_files t0 t1 ends (Ok files) same opens notes copied failed = λ honest.
+  noted_of_files still t0 t1 ends (Ok files) same opens notes copied failed = λ honest.
       let copy = copied honest in
       let o = opens copy.was_clean in
       let a = notes copy.was_clean false old o.0 in
       (a.new, closed_with g names after (same ∙ o.1) a.now_broken a.new files copy a.holds, subst (λ n. IsNotedSinceOpening n old a.new t0 t1 ends) o.1 a.noted_of)
-  noted_of_files t0 t1 ends (Err e) same opens notes copied failed = λ honest.
+  noted_of_files still t0 t1 ends (Err e) same opens notes copied failed = λ honest.
       let quiet = failed.0.quiet in
       let clean : HasCleanDisk (database over_files after) = omega (arith, quiet.clean, honest) in
       let o = opens clean in
       let a = notes clean false old o.0 in
-      (a.new, subst (λ n. IsNotedSinceOpening n old a.new t0 t1 ends) o.1 a.noted_of)
+      let l = left_since still t0 t1 ends a in
+      let it : (since : IsNotedSinceOpening names old a.new t0 t1 ends) × LeavesOnly over_files l.0 after (IsLeftOfNoted names since.noted_of.notices a.new) =
+      subst (λ n. (since : IsNotedSinceOpening n old a.new t0 t1 ends) × LeavesOnly over_files l.0 after (IsLeftOfNoted n since.noted_of.notices a.new)) o.1 (a.noted_of, l.1) in
+      (a.new, it.0, may_hold g names after (same ∙ o.1) l.0 (IsLeftOfNoted names it.0.noted_of.notices a.new) e.1 (λ trees may. quiet.outcomes trees may) it.1)
 
 -- where the observer waits for nothing more
 pub reached_in_files : {D : Type 0} {g : Ghosts D} (names : Names) (old : Content) (was is : Account) (ends : List Ended) (wanted : Ids) (closed : Result (Files D) (Error × FileStore D g)) → IsNotedOfFiles names old was is ends closed

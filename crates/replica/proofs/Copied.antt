@@ -21,7 +21,7 @@ use Rattle.replica.proofs.Transactions.{itself, still}
 -- ---- a second run
 
 -- what is executed stays so
-stays : (names : Names) (old : Content) (ds : List DeliveryValue) (n : ℕ) (new : Content) → AppliesAll names old ds n new → (q : Id) → set.contains old.executed q ≡ true → set.contains new.executed q ≡ true
+pub stays : (names : Names) (old : Content) (ds : List DeliveryValue) (n : ℕ) (new : Content) → AppliesAll names old ds n new → (q : Id) → set.contains old.executed q ≡ true → set.contains new.executed q ≡ true
 stays names old [] n new t q has = ap (λ (c : Content). set.contains c.executed q) t.1 ∙ has
 stays names old (d ∷ ds) n new (inl t) q has =
     stays names t.0 ds t.1 new t.4 q (ap (λ ids. set.contains ids q) t.2.2 ∙ still old.executed (d.source, d.number) q has)

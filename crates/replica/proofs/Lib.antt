@@ -43,6 +43,8 @@ pub mod Changed
 pub mod Copies
 pub mod Loaded
 pub mod Copied
+pub mod FeedReading
+pub mod FeedLosses
 pub mod Cleared
 pub mod ClearStore
 pub mod ClearFiles

@@ -1,5 +1,6 @@
 -- A store into which a first copy is loaded, and its files.
-use Rattle.std.proofs.Common.{◌≡◌, ℕ, Bool, true, false, [], Result, Ok, Err, IfOk, IfErr, IsTrue, refl, sym, subst, ◌∙◌, arith}
+use Rattle.std.proofs.Common.{◌≡◌, ℕ, Bool, true, false, [], Result, Ok, Err, IfOk, IfErr, IsTrue, refl, sym, ap, subst, ◌∙◌, arith}
+use Rattle.std.specs.FinSet as set
 use Rattle.sqlite_disk.specs.declared.Disk.{Ghosts}
 use Rattle.sqlite_disk.specs.declared.Files.{Files}
 use Rattle.sqlite_wal.specs.Reads.{AreClean}
@@ -17,6 +18,7 @@ use Rattle.gtid.specs.Identifier.{Id, Ids}
 use Rattle.binlog.specs.Filter.{Names}
 use Rattle.store.specs.State.{Content}
 use Rattle.store.specs.Apply.{IsAtRest}
+use Rattle.store.specs.Faults.{IsFailure}
 use Rattle.store.specs.declared.fault.StoreFault.{StoreFault}
 use Rattle.store.specs.declared.fault.StoreFault.TheVariants as fault
 use Rattle.store.specs.declared.listing.ListError.{ListError}
@@ -29,23 +31,24 @@ use Rattle.store.proofs.Reopened.{left_by}
 use Rattle.replica.specs.declared.loading.LoadEnd.{LoadEnd}
 use Rattle.replica.specs.declared.loading.LoadEnd.TheVariants.{Changed, Refused}
 use Rattle.replica.specs.declared.loading.Unloadable.{Unloadable}
-use Rattle.replica.specs.declared.loading.Unloadable.TheVariants.{OtherSet, LeftOut, HasRows, Failed}
 use Rattle.replica.specs.Given.{Supply}
 use Rattle.replica.specs.File.{KeepsContent, IsCleanlyClosed}
-use Rattle.replica.specs.Copies.{IsUnloadable}
+use Rattle.replica.specs.Copies.{IsUnloadable, MayNotLoad}
 use Rattle.replica.specs.Noted.{Account}
 use Rattle.replica.specs.Change.{begun_with}
-use Rattle.replica.specs.Loading.{JudgesCopy, StaysAs, HasLoaded, IsLedByLoad}
+use Rattle.replica.specs.Over.{HasStayed}
+use Rattle.replica.specs.Loading.{JudgesCopy, HasLoaded, IsLedByLoad}
 use Rattle.replica.specs.LoadFile.{LoadsTo, IsNotedOfLoad}
-use Rattle.replica.proofs.Closed.{clean_before_closing, kept_with, may_hold}
+use Rattle.replica.proofs.Closed.{clean_before_closing}
+use Rattle.replica.proofs.ClearFiles.{keeps_stayed}
 use Rattle.replica.proofs.Changed.{changed_into, noted_from}
 
 module _ {S : Type 0} (g : StoreGhosts S) where
   pub keeps_of : (store : Store S g) (content : Content) → Holds g store content → Keeps g store content
   keeps_of store content holds = record { whole = holds.whole; executed = holds.executed; rest = λ is_open. holds.rest }
 
-  kept_listed : (E : Type 0) (f : StoreFault) (content : Content) (store : Store S g) → HoldsListed g {E = E} content store (Err (StoreError f)) → Keeps g store content
-  kept_listed E (fault.Database e) content store keeps = keeps
+  kept_listed : (E : Type 0) (f : StoreFault) (content : Content) (store : Store S g) → HoldsListed g {E = E} content store (Err (StoreError f)) → Keeps g store content × IsFailure f
+  kept_listed E (fault.Database e) content store keeps = (keeps, tt)
   kept_listed E fault.Memory content store keeps = absurd keeps
   kept_listed E fault.Damaged content store keeps = absurd keeps
   kept_listed E (fault.Layout n) content store keeps = absurd keeps
@@ -55,46 +58,32 @@ module _ {S : Type 0} (g : StoreGhosts S) where
   kept_listed E (fault.CountFull at) content store keeps = absurd keeps
 
   -- after a failure of the store, and after one of the visitor
-  pub kept_after : {E : Type 0} (error : ListError E) (f : StoreFault) (content : Content) (store : Store S g) → error ≡ StoreError f → HoldsListed g content store (Err error) → Keeps g store content
+  pub kept_after : {E : Type 0} (error : ListError E) (f : StoreFault) (content : Content) (store : Store S g) → error ≡ StoreError f → HoldsListed g content store (Err error) → Keeps g store content × IsFailure f
   kept_after {E} error f content store is listed = kept_listed E f content store (subst (λ (e : ListError E). HoldsListed g content store (Err e)) is listed)
 
   pub held_after : {E : Type 0} (error : ListError E) (e : E) (content : Content) (store : Store S g) → error ≡ VisitorError e → HoldsListed g content store (Err error) → Holds g store content
   held_after {E} error e content store is listed = subst (λ (x : ListError E). HoldsListed g content store (Err x)) is listed
 
+  -- a copy that was not begun may not be loaded
+  pub may_not : (names : Names) (store : Store S g) (content : Content) (ids : Ids) (first : Id) (tables : Names) (executed : Ids) (begun : Bool) → executed ≡ content.executed → begun ≡ set.contains executed first → begun ≡ false
+      → (why : Unloadable) → Keeps g store content → IsUnloadable names content ids tables why → JudgesCopy g names content ids first tables store (Err why)
+  may_not names store content ids first tables executed begun same says is why keeps reason = (keeps, record { not_begun = ap (λ (x : Ids). set.contains x first) (sym same) ∙ sym says ∙ is; reason = reason })
+
   -- the copy is refused, and the store keeps what it holds
-  module _ (before after : Store S g) (old : Content) (ids : Ids) (first : Id) (tables : Names) (later : after.following ≡ before.following)
-      (crash : (trees : Trees) → (state g after.conn).may_leave trees → AreOf (state g before.conn).now.schema before.following old trees) where
-    is_kept : Keeps g after old → StaysAs g after old
-    is_kept keeps = record {
-      keeps = keeps;
+  pub refused : (before after : Store S g) (old : Content) (ids : Ids) (first : Id) (tables : Names) → after.following ≡ before.following
+      → ((trees : Trees) → (state g after.conn).may_leave trees → AreOf (state g before.conn).now.schema before.following old trees)
+      → (why : Unloadable) → JudgesCopy g before.following old ids first tables after (Err why) → MayNotLoad before.following old ids first tables why × HasStayed g after old (λ left. left ≡ old)
+  refused before after old ids first tables later crash why (keeps, is) = (
+    is,
+    record {
+      executed = keeps.executed;
+      rest = keeps.rest;
       schema = (state g before.conn).now.schema;
       leaves = record { each = λ trees may. (old, subst (λ n. AreOf (state g before.conn).now.schema n old trees) (sym later) (crash trees may), refl) };
-    }
-
-    pub refused : (why : Unloadable) → JudgesCopy g before.following old ids first tables after (Err why) → IsUnloadable before.following old ids tables why × StaysAs g after old
-    refused OtherSet (holds, is) = (is, is_kept (keeps_of after old holds))
-    refused (LeftOut name) (holds, is) = (is, is_kept (keeps_of after old holds))
-    refused (HasRows name) (holds, is) = (is, is_kept (keeps_of after old holds))
-    refused (Failed f) keeps = (tt, is_kept keeps)
+    },
+  )
 
 module _ {D : Type 0} (g : Ghosts D) (names : Names) (old : Content) (opened after : Store (FileStore D g) over_files) where
-  kept_files : (only : Names) (closed : Result (Files D) (Error × FileStore D g)) → after.following ≡ opened.following → (HasCleanDisk (database over_files after) → Holds over_files opened old × (opened.following ≡ names))
-      → (HasCleanDisk (database over_files after) → (content : Content) → Holds over_files opened content → StaysAs over_files after content)
-      → IfOk closed (λ files. AreClean g files.log files.db → IsCopied after.conn files)
-      → IfErr closed (λ e. IsClosed after.conn e.1 × (IsClean (view e.1) → FailsToClose after.conn e.1 e.0))
-      → KeepsContent only names old closed
-  kept_files only (Ok files) same opens kept copied failed = λ honest.
-      let copy = copied honest in
-      let o = opens copy.was_clean in
-      kept_with g names after (same ∙ o.1) old files copy (kept copy.was_clean old o.0).keeps
-  kept_files only (Err e) same opens kept copied failed = λ honest trees may.
-      let quiet = failed.0.quiet in
-      let clean : HasCleanDisk (database over_files after) = omega (arith, quiet.clean, honest) in
-      let o = opens clean in
-      let k = kept clean old o.0 in
-      let l = may_hold g names after (same ∙ o.1) k.schema (λ c. c ≡ old) e.1 (λ t m. quiet.outcomes t m) k.leaves trees may in
-      subst (λ c. IsLeft only names c trees) l.1 (l.2 only)
-
   pub loaded_into : {E : Type 0} (only : Names) (left : Supply) (ids : Ids) (first : Id) (tables : Names) (applied : ℕ) (end : LoadEnd E) (closed : Result (Files D) (Error × FileStore D g))
       → after.following ≡ opened.following → (HasCleanDisk (database over_files after) → Holds over_files opened old × (opened.following ≡ names))
       → (HasCleanDisk (database over_files after) → (content : Content) → Holds over_files opened content → HasLoaded over_files opened.following after content ids first tables left applied end)
@@ -113,7 +102,7 @@ module _ {D : Type 0} (g : Ghosts D) (names : Names) (old : Content) (opened aft
         let clean = clean_before_closing after.conn closed copied failed honest in
         let o = opens clean in
         (subst (λ n. HasLoaded over_files {E = E} n after old ids first tables left applied (Refused why)) o.1 (loads clean old o.0)).0),
-    kept_files only closed same opens (λ clean content holds. (loads clean content holds).1) copied failed,
+    keeps_stayed g names old opened after only old closed same opens (λ clean holds. (loads clean old holds).1) copied failed,
   )
 
   pub noted_of_load : {E : Type 0} (ids : Ids) (t0 t1 : Account) (end : LoadEnd E) (closed : Result (Files D) (Error × FileStore D g))

@@ -1,8 +1,9 @@
 -- What is reported to an observer, along the calls that report it.
 use Rattle.std.proofs.Common.{◌≡◌, ◌≢◌, ◌⊎◌, ◌∷◌, ◌++◌, [], length, arith, List, Option, Some, None, Result, Ok, Err, Bool, true, false, refl, sym, ap, ap₂, subst, ◌∙◌, inl, inr, append_assoc, append-nil}
-use Rattle.std.specs.Prelude.{if◌then◌else◌, not}
-use Rattle.std.proofs.lemmas.Bool.{cases_Bool, false≢true, false_from_ne_true}
+use Rattle.std.specs.Prelude.{if◌then◌else◌, not, ◌||◌}
+use Rattle.std.proofs.lemmas.Bool.{cases_Bool, false≢true, false_from_ne_true, or_left, or_right, or_cases, or_parts}
 use Rattle.sqlite_trees.specs.declared.store.Store.{Ghosts}
+use Rattle.sqlite_schema.specs.declared.schema.Schema.{Schema}
 use Rattle.std.specs.FinSet as set
 use Rattle.gtid.specs.Identifier.{Ids}
 use Rattle.binlog.specs.Filter.{Names}
@@ -14,7 +15,8 @@ use Rattle.store.specs.declared.fault.Applied.TheVariants as applied
 use Rattle.store.specs.declared.fault.StoreFault.{StoreFault}
 use Rattle.store.specs.declared.fault.StoreFault.TheVariants as fault
 use Rattle.store.specs.declared.store.Store.{Store}
-use Rattle.store.specs.Store.{Holds, HasFailed, HoldsAs, Applies}
+use Rattle.store.specs.Store.{Holds, HasFailed, HoldsAs, AreOf, Applies}
+use Rattle.sqlite.specs.Held.{state}
 use Rattle.replica.specs.declared.end.Reason.{Reason}
 use Rattle.replica.specs.declared.end.Reason.TheVariants.{EndOfInput, SourceEof, SourceError, Wire, Greet, Event, Gather, Refused, Database, Memory, ReadFailed, WriteFailed, Halted, Until}
 use Rattle.replica.specs.declared.end.Ended.{Ended}
@@ -22,7 +24,9 @@ use Rattle.replica.specs.Conn.{AppliesAll}
 use Rattle.replica.specs.PayloadStep.{outcome_of}
 use Rattle.replica.proofs.Transactions.{all_one}
 use Rattle.replica.proofs.MissingSets.{none_left, none_removed}
-use Rattle.replica.specs.Noted.{Notice, opened, before, stopped, after, ended, HasBeenNoted, asked_about, ends_in, has_stop, has_last, LetsNone, applied_in, IsMadeBy, LeadsBy, Account, IsNotedOf, IsLedTo, missing_after, StillWaits, AreMissed, WereMissed, WasMissing, BeginsWith, IsNotedSinceOpening, IsLedSinceOpening}
+use Rattle.replica.specs.Noted.{Notice, opened, before, stopped, after, ended, HasBeenNoted, asked_about, ends_in, has_stop, has_last, LetsNone, applied_in, IsMadeBy, LeadsBy, Account, IsNotedOf, IsLedTo, IsLedOver, missing_after, StillWaits, AreMissed, WereMissed, WasMissing, BeginsWith, IsNotedSinceOpening, IsLedSinceOpening, fails_by, has_failure, EndsAtFailure, NextFails, IsOneMoreNoted, IsLeftOfNoted}
+use Rattle.replica.specs.Over.{LeavesOnly}
+use Rattle.replica.specs.Alone.{TakesAlone}
 use Rattle.replica.specs.Missing.{waits_for_none}
 
 pub noted_none : (noted : Option (List Notice)) → HasBeenNoted noted noted []
@@ -168,6 +172,70 @@ leads_more names old (ended end false ∷ xs) mid ys new a b none last =
     let alone : ys ≡ [] = last refl in
     (ap₂ (λ (x y : List Notice). x ++ y) a.0 alone, subst (λ (l : List Notice). LeadsBy names mid l new) alone b ∙ a.1)
 
+-- ---- after a failure
+
+pub applied_more : (xs ys : List Notice) → applied_in (xs ++ ys) ≡ applied_in xs ++ applied_in ys
+applied_more [] ys = refl
+applied_more (opened ids ∷ xs) ys = applied_more xs ys
+applied_more (before d ∷ xs) ys = applied_more xs ys
+applied_more (stopped d ∷ xs) ys = applied_more xs ys
+applied_more (after d (Ok true) ∷ xs) ys = ap (λ (l : List DeliveryValue). d ∷ l) (applied_more xs ys)
+applied_more (after d (Ok false) ∷ xs) ys = applied_more xs ys
+applied_more (after d (Err reason) ∷ xs) ys = applied_more xs ys
+applied_more (ended end goes_on ∷ xs) ys = applied_more xs ys
+
+none_applied : (xs ys : List Notice) → applied_in xs ≡ [] → applied_in ys ≡ [] → applied_in (xs ++ ys) ≡ []
+none_applied xs ys a b = applied_more xs ys ∙ ap₂ (λ (x y : List DeliveryValue). x ++ y) a b
+
+-- a failure in one list or the other
+failure_more : (xs ys : List Notice) → has_failure (xs ++ ys) ≡ true → (has_failure xs ≡ true) ⊎ (has_failure ys ≡ true)
+failure_more [] ys f = inr f
+failure_more (opened ids ∷ xs) ys f = failure_more xs ys f
+failure_more (before d ∷ xs) ys f = failure_more xs ys f
+failure_more (stopped d ∷ xs) ys f = failure_more xs ys f
+failure_more (after d answer ∷ xs) ys f = elim (or_cases (fails_by answer) (has_failure (xs ++ ys)) f) [
+  | inl here ↦ inl (or_left _ _ here)
+  | inr later ↦ elim (failure_more xs ys later) [ inl one ↦ inl (or_right _ _ one) | inr two ↦ inr two ]
+]
+failure_more (ended end goes_on ∷ xs) ys f = failure_more xs ys f
+
+fails_more : (xs ys : List Notice) → EndsAtFailure xs → EndsAtFailure ys → (has_failure xs ≡ true → applied_in ys ≡ []) → EndsAtFailure (xs ++ ys)
+fails_more [] ys a b last = b
+fails_more (opened ids ∷ xs) ys a b last = fails_more xs ys a b last
+fails_more (before d ∷ xs) ys a b last = fails_more xs ys a b last
+fails_more (stopped d ∷ xs) ys a b last = fails_more xs ys a b last
+fails_more (after d answer ∷ xs) ys a b last = (
+  λ f. none_applied xs ys (a.0 f) (last (or_left _ _ f)),
+  fails_more xs ys a.1 b (λ f. last (or_right _ _ f)),
+)
+fails_more (ended end goes_on ∷ xs) ys a b last = fails_more xs ys a b last
+
+-- one transaction more, after the first of what was reported or before the last of it
+one_later : (names : Names) (new left : Content) (xs ys : List Notice) → has_failure xs ≡ false → IsOneMoreNoted names new ys left → IsOneMoreNoted names new (xs ++ ys) left
+one_later names new left [] ys whole m = m
+one_later names new left (opened ids ∷ xs) ys whole m = one_later names new left xs ys whole m
+one_later names new left (before d ∷ xs) ys whole m = inr (one_later names new left xs ys whole m)
+one_later names new left (stopped d ∷ xs) ys whole m = one_later names new left xs ys whole m
+one_later names new left (after d answer ∷ xs) ys whole m = let parts = or_parts _ _ whole in (parts.0, one_later names new left xs ys parts.1 m)
+one_later names new left (ended end goes_on ∷ xs) ys whole m = one_later names new left xs ys whole m
+
+next_more : (xs ys : List Notice) → NextFails xs → NextFails (xs ++ ys)
+next_more [] ys f = absurd f
+next_more (opened ids ∷ xs) ys f = absurd f
+next_more (before d ∷ xs) ys f = absurd f
+next_more (stopped d ∷ xs) ys f = absurd f
+next_more (after d answer ∷ xs) ys f = f
+next_more (ended end goes_on ∷ xs) ys f = absurd f
+
+one_earlier : (names : Names) (new left : Content) (xs ys : List Notice) → IsOneMoreNoted names new xs left → IsOneMoreNoted names new (xs ++ ys) left
+one_earlier names new left [] ys m = absurd m
+one_earlier names new left (opened ids ∷ xs) ys m = one_earlier names new left xs ys m
+one_earlier names new left (before d ∷ xs) ys (inl m) = inl (next_more xs ys m.0, m.1)
+one_earlier names new left (before d ∷ xs) ys (inr m) = inr (one_earlier names new left xs ys m)
+one_earlier names new left (stopped d ∷ xs) ys m = one_earlier names new left xs ys m
+one_earlier names new left (after d answer ∷ xs) ys m = (m.0, one_earlier names new left xs ys m.1)
+one_earlier names new left (ended end goes_on ∷ xs) ys m = one_earlier names new left xs ys m
+
 pub ends_more : (xs ys : List Notice) → ends_in (xs ++ ys) ≡ ends_in xs ++ ends_in ys
 ends_more [] ys = refl
 ends_more (opened ids ∷ xs) ys = ends_more xs ys
@@ -214,6 +282,12 @@ all_applied names old (opened ids ∷ ns) new l = all_applied names old ns new l
 all_applied names old (ended end true ∷ ns) new l = all_applied names old ns new l
 all_applied names old (ended end false ∷ ns) new l = subst (λ (x : List Notice). AppliesAll names old (applied_in x) (length (applied_in x)) new) (sym l.0) (refl, l.1)
 
+-- where none is applied the content stays
+pub unapplied : (names : Names) (old : Content) (notices : List Notice) (new : Content) → LeadsBy names old notices new → applied_in notices ≡ [] → new ≡ old
+unapplied names old notices new l none =
+    let all = all_applied names old notices new l in
+    (subst (λ ds. AppliesAll names old ds (length ds) new) none all).1
+
 pub one_led : (names : Names) (old : Content) (notices : List Notice) (a b : Content) → LeadsBy names old notices a → LeadsBy names old notices b → a ≡ b
 one_led names old notices a b l m = (all_one names old (applied_in notices) (length (applied_in notices)) (length (applied_in notices)) a b (all_applied names old notices a l) (all_applied names old notices b m)).content
 
@@ -224,7 +298,7 @@ pub asked_new : (now : Content) (d : DeliveryValue) (was is : Option (List Notic
 asked_new now d was is true fresh noted = subst (λ (b : Bool). HasBeenNoted was is (if b then [] else before d ∷ [])) (sym fresh) noted
 asked_new now d was is false fresh noted = subst (λ (b : Bool). HasBeenNoted was is (if b then [] else stopped d ∷ [])) (sym fresh) noted
 
-pub nothing_noted : (names : Names) (old : Content) (was is : Account) → is.noted ≡ was.noted → (was.has_stopped ≡ true → is.has_stopped ≡ true) → StillWaits was.waits [] is.waits → IsNotedOf names old old was is []
+abbrev pub nothing_noted : (names : Names) (old : Content) (was is : Account) → is.noted ≡ was.noted → (was.has_stopped ≡ true → is.has_stopped ≡ true) → StillWaits was.waits [] is.waits → IsNotedOf names old old was is []
 nothing_noted names old was is same stays still = record {
   notices = [];
   noted = subst (λ (t : Option (List Notice)). HasBeenNoted was.noted t []) (sym same) (noted_none was.noted);
@@ -281,50 +355,137 @@ begins_more executed (stopped d ∷ xs) ys b = absurd b
 begins_more executed (after d answer ∷ xs) ys b = absurd b
 begins_more executed (ended end goes_on ∷ xs) ys b = absurd b
 
-since_on : (names : Names) (old mid new : Content) (t0 t1 t2 : Account) (ends more : List Ended) → (ends ≢ [] → t1.has_stopped ≡ false) → IsNotedSinceOpening names old mid t0 t1 ends → IsNotedOf names mid new t1 t2 more
-    → (ends ++ more ≢ [] → WasMissing t0.waits t2.waits old.executed) → IsNotedSinceOpening names old new t0 t2 (ends ++ more)
-since_on names old mid new t0 t1 t2 ends more going a b missed = record {
+abbrev since_on : (names : Names) (old mid new : Content) (t0 t1 t2 : Account) (ends more : List Ended) → (ends ≢ [] → t1.has_stopped ≡ false) → (a : IsNotedSinceOpening names old mid t0 t1 ends) → (b : IsNotedOf names mid new t1 t2 more)
+    → (ends ++ more ≢ [] → WasMissing t0.waits t2.waits old.executed) → EndsAtFailure (a.noted_of.notices ++ b.notices) → IsNotedSinceOpening names old new t0 t2 (ends ++ more)
+since_on names old mid new t0 t1 t2 ends more going a b missed fails = record {
   noted_of = noted_on names old mid new t0 t1 t2 ends more going a.noted_of b;
   begins = begins_more old.executed a.noted_of.notices b.notices a.begins;
   missed = missed;
+  fails = fails;
 }
 
-module _ {S : Type 0} (g : Ghosts S) where
-  -- nothing is reported, and the store stays as it is
-  pub led_nowhere : (broken : Bool) (old : Content) (store : Store S g) (was is : Account) → HoldsAs g broken old store → is.noted ≡ was.noted → (was.has_stopped ≡ true → is.has_stopped ≡ true) → StillWaits was.waits [] is.waits → IsLedTo g store store broken old was is []
-  led_nowhere broken old store was is holds same stays still = record { now_broken = broken; new = old; holds = holds; noted_of = nothing_noted store.following old was is same stays still }
+-- What leads from one store to another, by the tables of a filter.
+record Leads {S : Type 0} (g : Ghosts S) (names : Names) (before after : Store S g) (broken : Bool) (old : Content) (was is : Account) (ends : List Ended) : Type 0 where
+  pub now_broken : Bool
+  pub new : Content
+  pub holds : HoldsAs g now_broken new after
+  pub noted_of : IsNotedOf names old new was is ends
+  pub still : broken ≡ true → (after ≡ before) × (now_broken ≡ true) × (applied_in noted_of.notices ≡ [])
+  pub breaks : has_failure noted_of.notices ≡ true → now_broken ≡ true
+  pub fails : EndsAtFailure noted_of.notices
+  pub leaves : broken ≡ false → now_broken ≡ true → (schema : Schema) × LeavesOnly g schema after (IsLeftOfNoted names noted_of.notices new)
 
-  pub led_on : (broken : Bool) (old : Content) (first middle last : Store S g) (t0 t1 t2 : Account) (ends more : List Ended) → middle.following ≡ first.following → (ends ≢ [] → t1.has_stopped ≡ false)
-      → (a : IsLedTo g first middle broken old t0 t1 ends) → IsLedTo g middle last a.now_broken a.new t1 t2 more → IsLedTo g first last broken old t0 t2 (ends ++ more)
-  led_on broken old first middle last t0 t1 t2 ends more same going a b = record {
+module _ {S : Type 0} (g : Ghosts S) where
+  pub weaker_leaves : (schema : Schema) (store : Store S g) (P Q : Content → Type 0) → ((left : Content) → P left → Q left) → LeavesOnly g schema store P → LeavesOnly g schema store Q
+  weaker_leaves schema store P Q more it = record { each = λ trees may. let l = it.each trees may in (l.0, l.1, more l.0 l.2) }
+
+  -- nothing was applied, in a store that stays as it is
+  quiet : (broken : Bool) (old : Content) (store : Store S g) (was is : Account) (ends : List Ended) → (led : IsLedTo g store store broken old was is ends) → led.now_broken ≡ broken → applied_in led.noted_of.notices ≡ [] → has_failure led.noted_of.notices ≡ false
+      → EndsAtFailure led.noted_of.notices → IsLedOver g store store broken old was is ends
+  quiet broken old store was is ends led same none whole fails = record {
+    led = led;
+    still = λ was_so. (refl, same ∙ was_so, none);
+    breaks = λ f. absurd (false≢true (sym whole ∙ f));
+    fails = fails;
+    leaves = λ fresh now. absurd (false≢true (sym fresh ∙ sym same ∙ now));
+  }
+
+  -- nothing is reported, and the store stays as it is
+  pub led_nowhere : (broken : Bool) (old : Content) (store : Store S g) (was is : Account) → HoldsAs g broken old store → is.noted ≡ was.noted → (was.has_stopped ≡ true → is.has_stopped ≡ true) → StillWaits was.waits [] is.waits → IsLedOver g store store broken old was is []
+  led_nowhere broken old store was is holds same stays still =
+      quiet broken old store was is [] (record { now_broken = broken; new = old; holds = holds; noted_of = nothing_noted store.following old was is same stays still }) refl refl refl tt
+
+  abbrev to_leads : (broken : Bool) (old : Content) (first last : Store S g) (was is : Account) (ends : List Ended) → IsLedOver g first last broken old was is ends → Leads g first.following first last broken old was is ends
+  to_leads broken old first last was is ends a = record {
+    now_broken = a.led.now_broken;
+    new = a.led.new;
+    holds = a.led.holds;
+    noted_of = a.led.noted_of;
+    still = a.still;
+    breaks = a.breaks;
+    fails = a.fails;
+    leaves = a.leaves;
+  }
+
+  of_leads : (broken : Bool) (old : Content) (first last : Store S g) (was is : Account) (ends : List Ended) → Leads g first.following first last broken old was is ends → IsLedOver g first last broken old was is ends
+  of_leads broken old first last was is ends a = record {
+    led = record { now_broken = a.now_broken; new = a.new; holds = a.holds; noted_of = a.noted_of };
+    still = a.still;
+    breaks = a.breaks;
+    fails = a.fails;
+    leaves = a.leaves;
+  }
+
+  -- what a crash leaves of a store that failed in the first part, or in the second one
+  left_then : (names : Names) (middle last : Store S g) (xs ys : List Notice) (mid new : Content) (at now : Bool)
+      → (at ≡ true → (schema : Schema) × LeavesOnly g schema middle (IsLeftOfNoted names xs mid))
+      → (at ≡ true → (last ≡ middle) × (now ≡ true) × (applied_in ys ≡ []))
+      → (at ≡ false → (schema : Schema) × LeavesOnly g schema last (IsLeftOfNoted names ys new)) → LeadsBy names mid ys new → (has_failure xs ≡ true → at ≡ true)
+      → (schema : Schema) × LeavesOnly g schema last (IsLeftOfNoted names (xs ++ ys) new)
+  left_then names middle last xs ys mid new at now one still two leads breaks = elim (cases_Bool at) [
+    | inl failed ↦
+        let l = one failed in
+        let s = still failed in
+        let same : new ≡ mid = unapplied names mid ys new leads s.2 in (
+          l.0,
+          weaker_leaves l.0 last (IsLeftOfNoted names xs mid) (IsLeftOfNoted names (xs ++ ys) new)
+              (λ left is. elim is [ inl stays ↦ inl (stays ∙ sym same) | inr more ↦ inr (one_earlier names new left xs ys (subst (λ c. IsOneMoreNoted names c xs left) (sym same) more)) ])
+              (subst (λ (s : Store S g). LeavesOnly g l.0 s (IsLeftOfNoted names xs mid)) (sym s.0) l.1),
+        )
+    | inr whole ↦
+        let l = two whole in (
+          l.0,
+          weaker_leaves l.0 last (IsLeftOfNoted names ys new) (IsLeftOfNoted names (xs ++ ys) new) (λ left is. elim is [ inl stays ↦ inl stays | inr more ↦ inr (one_later names new left xs ys (false_from_ne_true (has_failure xs) (λ f. false≢true (sym whole ∙ breaks f))) more) ]) l.1,
+        )
+  ]
+
+  leads_then : (names : Names) (broken : Bool) (old : Content) (first middle last : Store S g) (t0 t1 t2 : Account) (ends more : List Ended) → (ends ≢ [] → t1.has_stopped ≡ false)
+      → (a : Leads g names first middle broken old t0 t1 ends) → Leads g names middle last a.now_broken a.new t1 t2 more → Leads g names first last broken old t0 t2 (ends ++ more)
+  leads_then names broken old first middle last t0 t1 t2 ends more going a b = record {
     now_broken = b.now_broken;
     new = b.new;
     holds = b.holds;
-    noted_of = noted_on first.following old a.new b.new t0 t1 t2 ends more going a.noted_of (subst (λ n. IsNotedOf n a.new b.new t1 t2 more) same b.noted_of);
+    noted_of = noted_on names old a.new b.new t0 t1 t2 ends more going a.noted_of b.noted_of;
+    still = λ was_so.
+        let one = a.still was_so in
+        let two = b.still one.1 in
+        (two.0 ∙ one.0, two.1, none_applied a.noted_of.notices b.noted_of.notices one.2 two.2);
+    breaks = λ f. elim (failure_more a.noted_of.notices b.noted_of.notices f) [ inl one ↦ (b.still (a.breaks one)).1 | inr two ↦ b.breaks two ];
+    fails = fails_more a.noted_of.notices b.noted_of.notices a.fails b.fails (λ f. (b.still (a.breaks f)).2);
+    leaves = λ fresh now. left_then names middle last a.noted_of.notices b.noted_of.notices a.new b.new a.now_broken b.now_broken (a.leaves fresh) b.still (λ whole. b.leaves whole now) b.noted_of.leads a.breaks;
   }
 
   pub led_through : (broken : Bool) (old : Content) (first middle last : Store S g) (t0 t1 t2 : Account) (ends more : List Ended) → middle.following ≡ first.following → (ends ≢ [] → t1.has_stopped ≡ false)
-      → IsLedTo g first middle broken old t0 t1 ends → ((is : Bool) (now : Content) → HoldsAs g is now middle → IsLedTo g middle last is now t1 t2 more) → IsLedTo g first last broken old t0 t2 (ends ++ more)
-  led_through broken old first middle last t0 t1 t2 ends more same going a next = led_on broken old first middle last t0 t1 t2 ends more same going a (next a.now_broken a.new a.holds)
+      → IsLedOver g first middle broken old t0 t1 ends → ((is : Bool) (now : Content) → HoldsAs g is now middle → IsLedOver g middle last is now t1 t2 more) → IsLedOver g first last broken old t0 t2 (ends ++ more)
+  led_through broken old first middle last t0 t1 t2 ends more same going a next =
+      let b : Leads g first.following middle last a.led.now_broken a.led.new t1 t2 more =
+      subst (λ n. Leads g n middle last a.led.now_broken a.led.new t1 t2 more) same (to_leads a.led.now_broken a.led.new middle last t1 t2 more (next a.led.now_broken a.led.new a.led.holds)) in
+      of_leads broken old first last t0 t2 (ends ++ more) (leads_then first.following broken old first middle last t0 t1 t2 ends more going (to_leads broken old first middle t0 t1 ends a) b)
 
   -- what is reported before makes no difference, if it is of no transaction
-  pub led_after : (broken : Bool) (old : Content) (first last : Store S g) (t0 t1 t2 : Account) (ends : List Ended) → t1.noted ≡ t0.noted → (t0.has_stopped ≡ true → t1.has_stopped ≡ true) → StillWaits t0.waits [] t1.waits → IsLedTo g first last broken old t1 t2 ends → IsLedTo g first last broken old t0 t2 ends
+  pub led_after : (broken : Bool) (old : Content) (first last : Store S g) (t0 t1 t2 : Account) (ends : List Ended) → t1.noted ≡ t0.noted → (t0.has_stopped ≡ true → t1.has_stopped ≡ true) → StillWaits t0.waits [] t1.waits → IsLedOver g first last broken old t1 t2 ends → IsLedOver g first last broken old t0 t2 ends
   led_after broken old first last t0 t1 t2 ends early stays still a = record {
-    now_broken = a.now_broken;
-    new = a.new;
-    holds = a.holds;
-    noted_of = record {
-      notices = a.noted_of.notices;
-      noted = subst (λ (t : Option (List Notice)). HasBeenNoted t t2.noted a.noted_of.notices) early a.noted_of.noted;
-      waits = waits_more t0.waits t1.waits t2.waits [] a.noted_of.notices still a.noted_of.waits;
-      missed = missed_more t0.waits t1.waits t2.waits [] a.noted_of.notices still a.noted_of.waits (missed_none t0.waits t1.waits still) a.noted_of.missed;
-      leads = a.noted_of.leads;
-      ends_are = a.noted_of.ends_are;
-      stays = λ on. a.noted_of.stays (stays on);
-      stops = a.noted_of.stops;
-      last = a.noted_of.last;
-      lets_none = λ on. a.noted_of.lets_none (stays on);
+    led = record {
+      now_broken = a.led.now_broken;
+      new = a.led.new;
+      holds = a.led.holds;
+      noted_of = record {
+        notices = a.led.noted_of.notices;
+        noted = subst (λ (t : Option (List Notice)). HasBeenNoted t t2.noted a.led.noted_of.notices) early a.led.noted_of.noted;
+        waits = waits_more t0.waits t1.waits t2.waits [] a.led.noted_of.notices still a.led.noted_of.waits;
+        missed = missed_more t0.waits t1.waits t2.waits [] a.led.noted_of.notices still a.led.noted_of.waits (missed_none t0.waits t1.waits still) a.led.noted_of.missed;
+        leads = a.led.noted_of.leads;
+        ends_are = a.led.noted_of.ends_are;
+        stays = λ on. a.led.noted_of.stays (stays on);
+        stops = a.led.noted_of.stops;
+        last = a.led.noted_of.last;
+        lets_none = λ on. a.led.noted_of.lets_none (stays on);
+      };
     };
+    still = a.still;
+    breaks = a.breaks;
+    fails = a.fails;
+    leaves = a.leaves;
   }
 
   -- the executed set of a store that was opened
@@ -337,32 +498,43 @@ module _ {S : Type 0} (g : Ghosts S) where
       noted_of = record { notices = opened ids ∷ []; noted = notes; waits = waits; missed = missed_same was.waits is.waits (opened ids) (λ all. tt) waits; leads = (same, refl); ends_are = refl; stays = stays; stops = λ bad. absurd (false≢true bad); last = λ bad. absurd (false≢true bad); lets_none = λ on. tt };
       begins = same;
       missed = λ some. absurd (some refl);
+      fails = tt;
     };
+    breaks = λ bad. absurd (false≢true bad);
+    leaves = λ fresh now. absurd (false≢true (sym fresh ∙ now));
   }
 
   -- the same as what leads from one content to another
-  pub led_from : (broken : Bool) (old : Content) (store : Store S g) (ids : Ids) (was is : Account) → HoldsAs g broken old store → ids ≡ old.executed → HasBeenNoted was.noted is.noted (opened ids ∷ []) → (was.has_stopped ≡ true → is.has_stopped ≡ true) → StillWaits was.waits (opened ids ∷ []) is.waits → IsLedTo g store store broken old was is []
-  led_from broken old store ids was is holds same notes stays waits =
-      let since = since_from broken old store ids was is holds same notes stays waits in
-      record { now_broken = since.now_broken; new = since.new; holds = since.holds; noted_of = since.noted_of.noted_of }
+  pub led_from : (broken : Bool) (old : Content) (store : Store S g) (ids : Ids) (was is : Account) → HoldsAs g broken old store → ids ≡ old.executed → HasBeenNoted was.noted is.noted (opened ids ∷ []) → (was.has_stopped ≡ true → is.has_stopped ≡ true) → StillWaits was.waits (opened ids ∷ []) is.waits → IsLedOver g store store broken old was is []
+  led_from broken old store ids was is holds same notes stays waits = quiet broken old store was is [] (record {
+    now_broken = broken;
+    new = old;
+    holds = holds;
+    noted_of = record { notices = opened ids ∷ []; noted = notes; waits = waits; missed = missed_same was.waits is.waits (opened ids) (λ all. tt) waits; leads = (same, refl); ends_are = refl; stays = stays; stops = λ bad. absurd (false≢true bad); last = λ bad. absurd (false≢true bad); lets_none = λ on. tt };
+  }) refl refl refl tt
 
   -- and what comes after that
   pub since_through : (broken : Bool) (old : Content) (first middle last : Store S g) (t0 t1 t2 : Account) (ends more : List Ended) → middle.following ≡ first.following → (ends ≢ [] → t1.has_stopped ≡ false)
-      → IsLedSinceOpening g first middle broken old t0 t1 ends → ((is : Bool) (now : Content) → HoldsAs g is now middle → IsLedTo g middle last is now t1 t2 more) → (ends ++ more ≢ [] → WasMissing t0.waits t2.waits old.executed)
+      → IsLedSinceOpening g first middle broken old t0 t1 ends → ((is : Bool) (now : Content) → HoldsAs g is now middle → IsLedOver g middle last is now t1 t2 more) → (ends ++ more ≢ [] → WasMissing t0.waits t2.waits old.executed)
       → IsLedSinceOpening g first last broken old t0 t2 (ends ++ more)
   since_through broken old first middle last t0 t1 t2 ends more same going a next missed =
-      let b = next a.now_broken a.new a.holds in
+      let b : Leads g first.following middle last a.now_broken a.new t1 t2 more =
+      subst (λ n. Leads g n middle last a.now_broken a.new t1 t2 more) same (to_leads a.now_broken a.new middle last t1 t2 more (next a.now_broken a.new a.holds)) in
+      let xs = a.noted_of.noted_of.notices in
+      let ys = b.noted_of.notices in
       record {
         now_broken = b.now_broken;
         new = b.new;
         holds = b.holds;
-        noted_of = since_on first.following old a.new b.new t0 t1 t2 ends more going a.noted_of (subst (λ n. IsNotedOf n a.new b.new t1 t2 more) same b.noted_of) missed;
+        noted_of = since_on first.following old a.new b.new t0 t1 t2 ends more going a.noted_of b.noted_of missed (fails_more xs ys a.noted_of.fails b.fails (λ f. (b.still (a.breaks f)).2));
+        breaks = λ f. elim (failure_more xs ys f) [ inl one ↦ (b.still (a.breaks one)).1 | inr two ↦ b.breaks two ];
+        leaves = λ fresh now. left_then first.following middle last xs ys a.new b.new a.now_broken b.now_broken (a.leaves fresh) b.still (λ whole. b.leaves whole now) b.noted_of.leads a.breaks;
       }
 
   -- the end of a connection
   pub led_to_end : (broken : Bool) (old : Content) (store : Store S g) (end : Ended) (goes_on : Bool) (was is : Account) → HoldsAs g broken old store → HasBeenNoted was.noted is.noted (ended end goes_on ∷ []) → goes_on ≡ not is.has_stopped → (was.has_stopped ≡ true → is.has_stopped ≡ true) → StillWaits was.waits [] is.waits
-      → IsLedTo g store store broken old was is (end ∷ [])
-  led_to_end broken old store end goes_on was is holds notes asks stays still = record {
+      → IsLedOver g store store broken old was is (end ∷ [])
+  led_to_end broken old store end goes_on was is holds notes asks stays still = quiet broken old store was is (end ∷ []) (record {
     now_broken = broken;
     new = old;
     holds = holds;
@@ -378,12 +550,12 @@ module _ {S : Type 0} (g : Ghosts S) where
       last = end_stops end goes_on is.has_stopped asks;
       lets_none = λ on. tt;
     };
-  }
+  }) refl refl refl tt
 
   -- a new transaction, before which the observer stops
   pub led_to_stop : (broken : Bool) (old : Content) (store : Store S g) (d : DeliveryValue) (was is : Account) → HoldsAs g broken old store → is_executed old d ≡ false → HasBeenNoted was.noted is.noted (asked_about old d true) → is.has_stopped ≡ true → StillWaits was.waits [] is.waits
-      → IsLedTo g store store broken old was is []
-  led_to_stop broken old store d was is holds fresh asked on still = record {
+      → IsLedOver g store store broken old was is []
+  led_to_stop broken old store d was is holds fresh asked on still = quiet broken old store was is [] (record {
     now_broken = broken;
     new = old;
     holds = holds;
@@ -399,77 +571,110 @@ module _ {S : Type 0} (g : Ghosts S) where
       last = λ bad. absurd (false≢true bad);
       lets_none = λ was_on. tt;
     };
-  }
+  }) refl refl refl tt
 
   -- a new one that is answered
   answered : (broken is : Bool) (old new : Content) (first last : Store S g) (d : DeliveryValue) (t0 t1 t2 : Account) (answer : Result Bool Reason) → is_executed old d ≡ false
-      → Asks old d t0 t1 t2 answer → IsMadeBy first.following old d answer new → HoldsAs g is new last → IsLedTo g first last broken old t0 t2 []
-  answered broken is old new first last d t0 t1 t2 answer fresh a makes holds = record {
-    now_broken = is;
-    new = new;
-    holds = holds;
-    noted_of = record {
-      notices = before d ∷ after d answer ∷ [];
-      noted = noted_more t0.noted t1.noted t2.noted (before d ∷ []) (after d answer ∷ []) (subst (λ (b : Bool). HasBeenNoted t0.noted t1.noted (if b then [] else before d ∷ [])) fresh a.asked) a.noted;
-      waits = waits_more t0.waits t1.waits t2.waits (before d ∷ []) (after d answer ∷ []) (waits_same t0.waits t1.waits (before d) (λ ids. refl) a.still) a.waits;
-      missed = missed_more t0.waits t1.waits t2.waits (before d ∷ []) (after d answer ∷ []) (waits_same t0.waits t1.waits (before d) (λ ids. refl) a.still) a.waits
-          (missed_before t0.waits t1.waits d a.still (a.missed fresh)) (missed_same t1.waits t2.waits (after d answer) (λ ids. after_missed ids d answer) a.waits);
-      leads = (refl, new, makes, refl);
-      ends_are = refl;
-      stays = λ on. a.stays_after (a.stays on);
-      stops = λ bad. absurd (false≢true bad);
-      last = λ bad. absurd (false≢true bad);
-      lets_none = λ on. absurd (false≢true (sym (a.goes_on fresh) ∙ a.stays on));
+      → Asks old d t0 t1 t2 answer → IsMadeBy first.following old d answer new → HoldsAs g is new last
+      → (broken ≡ true → (last ≡ first) × (is ≡ true) × (applied_in (before d ∷ after d answer ∷ []) ≡ [])) → (fails_by answer ≡ true → is ≡ true)
+      → (broken ≡ false → is ≡ true → (schema : Schema) × LeavesOnly g schema last (IsLeftOfNoted first.following (before d ∷ after d answer ∷ []) new)) → IsLedOver g first last broken old t0 t2 []
+  answered broken is old new first last d t0 t1 t2 answer fresh a makes holds still breaks leaves = record {
+    led = record {
+      now_broken = is;
+      new = new;
+      holds = holds;
+      noted_of = record {
+        notices = before d ∷ after d answer ∷ [];
+        noted = noted_more t0.noted t1.noted t2.noted (before d ∷ []) (after d answer ∷ []) (subst (λ (b : Bool). HasBeenNoted t0.noted t1.noted (if b then [] else before d ∷ [])) fresh a.asked) a.noted;
+        waits = waits_more t0.waits t1.waits t2.waits (before d ∷ []) (after d answer ∷ []) (waits_same t0.waits t1.waits (before d) (λ ids. refl) a.still) a.waits;
+        missed = missed_more t0.waits t1.waits t2.waits (before d ∷ []) (after d answer ∷ []) (waits_same t0.waits t1.waits (before d) (λ ids. refl) a.still) a.waits
+            (missed_before t0.waits t1.waits d a.still (a.missed fresh)) (missed_same t1.waits t2.waits (after d answer) (λ ids. after_missed ids d answer) a.waits);
+        leads = (refl, new, makes, refl);
+        ends_are = refl;
+        stays = λ on. a.stays_after (a.stays on);
+        stops = λ bad. absurd (false≢true bad);
+        last = λ bad. absurd (false≢true bad);
+        lets_none = λ on. absurd (false≢true (sym (a.goes_on fresh) ∙ a.stays on));
+      };
     };
+    still = still;
+    breaks = λ f. elim (or_cases (fails_by answer) false f) [ inl here ↦ breaks here | inr bad ↦ absurd (false≢true bad) ];
+    fails = (λ f. refl, tt);
+    leaves = leaves;
   }
 
   -- one that is executed
   repeated : (broken : Bool) (old : Content) (first last : Store S g) (d : DeliveryValue) (t0 t1 t2 : Account) (answer : Result Bool Reason) → is_executed old d ≡ true → LeadsBy first.following old (after d answer ∷ []) old
-      → Asks old d t0 t1 t2 answer → HoldsAs g broken old last → IsLedTo g first last broken old t0 t2 []
-  repeated broken old first last d t0 t1 t2 answer known leads a holds = record {
-    now_broken = broken;
-    new = old;
-    holds = holds;
-    noted_of = record {
-      notices = after d answer ∷ [];
-      noted = noted_more t0.noted t1.noted t2.noted [] (after d answer ∷ []) (subst (λ (b : Bool). HasBeenNoted t0.noted t1.noted (if b then [] else before d ∷ [])) known a.asked) a.noted;
-      waits = waits_more t0.waits t1.waits t2.waits [] (after d answer ∷ []) a.still a.waits;
-      missed = missed_more t0.waits t1.waits t2.waits [] (after d answer ∷ []) a.still a.waits (missed_none t0.waits t1.waits a.still) (missed_same t1.waits t2.waits (after d answer) (λ ids. after_missed ids d answer) a.waits);
-      leads = leads;
-      ends_are = refl;
-      stays = λ on. a.stays_after (a.stays on);
-      stops = λ bad. absurd (false≢true bad);
-      last = λ bad. absurd (false≢true bad);
-      lets_none = λ on. tt;
+      → Asks old d t0 t1 t2 answer → HoldsAs g broken old last → last ≡ first → applied_in (after d answer ∷ []) ≡ [] → (fails_by answer ≡ true → broken ≡ true) → IsLedOver g first last broken old t0 t2 []
+  repeated broken old first last d t0 t1 t2 answer known leads a holds same none breaks = record {
+    led = record {
+      now_broken = broken;
+      new = old;
+      holds = holds;
+      noted_of = record {
+        notices = after d answer ∷ [];
+        noted = noted_more t0.noted t1.noted t2.noted [] (after d answer ∷ []) (subst (λ (b : Bool). HasBeenNoted t0.noted t1.noted (if b then [] else before d ∷ [])) known a.asked) a.noted;
+        waits = waits_more t0.waits t1.waits t2.waits [] (after d answer ∷ []) a.still a.waits;
+        missed = missed_more t0.waits t1.waits t2.waits [] (after d answer ∷ []) a.still a.waits (missed_none t0.waits t1.waits a.still) (missed_same t1.waits t2.waits (after d answer) (λ ids. after_missed ids d answer) a.waits);
+        leads = leads;
+        ends_are = refl;
+        stays = λ on. a.stays_after (a.stays on);
+        stops = λ bad. absurd (false≢true bad);
+        last = λ bad. absurd (false≢true bad);
+        lets_none = λ on. tt;
+      };
     };
+    still = λ failed. (same, failed, none);
+    breaks = λ f. elim (or_cases (fails_by answer) false f) [ inl here ↦ breaks here | inr bad ↦ absurd (false≢true bad) ];
+    fails = (λ f. refl, tt);
+    leaves = λ fresh now. absurd (false≢true (sym fresh ∙ now));
   }
 
   -- a store that a failure has broken before
   pub led_broken : (old : Content) (first last : Store S g) (d : DeliveryValue) (t0 t1 t2 : Account) (r : Result Applied StoreFault) (out : Result Bool Reason) → HasFailed g first old
-      → (r ≡ Err fault.Broken) × (last ≡ first) → out ≡ outcome_of r → Asks old d t0 t1 t2 out → IsLedTo g first last true old t0 t2 []
+      → (r ≡ Err fault.Broken) × (last ≡ first) → out ≡ outcome_of r → Asks old d t0 t1 t2 out → IsLedOver g first last true old t0 t2 []
   led_broken old first last d t0 t1 t2 r out holds same is asked =
       let answer : Result Bool Reason = Err (Database fault.Broken) in
       let asks : Asks old d t0 t1 t2 answer = subst (λ (o : Result Bool Reason). Asks old d t0 t1 t2 o) (is ∙ ap outcome_of same.0) asked in
       let still : HoldsAs g true old last = subst (λ (s : Store S g). HasFailed g s old) (sym same.1) holds in
       elim (cases_Bool (is_executed old d)) [
-        | inl known ↦ repeated true old first last d t0 t1 t2 answer known (known, refl) asks still
-        | inr fresh ↦ answered true true old old first last d t0 t1 t2 answer fresh asks (fresh, refl) still
+        | inl known ↦ repeated true old first last d t0 t1 t2 answer known (known, refl) asks still same.1 refl (λ f. refl)
+        | inr fresh ↦ answered true true old old first last d t0 t1 t2 answer fresh asks (fresh, refl) still (λ failed. (same.1, refl, refl)) (λ f. refl) (λ fresh_store now. absurd (false≢true (sym fresh_store)))
       ]
 
-  by_answer : (old : Content) (first last : Store S g) (d : DeliveryValue) (t0 t1 t2 : Account) (r : Result Applied StoreFault) → Holds g first old → Applies g old d first last r
-      → Asks old d t0 t1 t2 (outcome_of r) → IsLedTo g first last false old t0 t2 []
-  by_answer old first last d t0 t1 t2 (Ok applied.Done) holds it asks = answered false false old it.after first last d t0 t1 t2 (Ok true) it.outcome.0 asks it.outcome it.holds
-  by_answer old first last d t0 t1 t2 (Ok applied.Repeat) holds it asks = repeated false old first last d t0 t1 t2 (Ok false) it.0 (it.0, refl) asks (subst (λ (s : Store S g). Holds g s old) (sym it.1) holds)
-  by_answer old first last d t0 t1 t2 (Err (fault.NoSuchRow at)) holds it asks = answered false false old old first last d t0 t1 t2 (outcome_of (Err (fault.NoSuchRow at))) it.0.0 asks (it.0, refl) it.1
-  by_answer old first last d t0 t1 t2 (Err (fault.CountFull at)) holds it asks = answered false false old old first last d t0 t1 t2 (outcome_of (Err (fault.CountFull at))) it.0.0 asks (it.0, refl) it.1
-  by_answer old first last d t0 t1 t2 (Err (fault.Database e)) holds it asks = answered false true old old first last d t0 t1 t2 (outcome_of (Err (fault.Database e))) it.0 asks (it.0, refl) it.1
-  by_answer old first last d t0 t1 t2 (Err fault.Memory) holds it asks = answered false true old old first last d t0 t1 t2 (outcome_of (Err fault.Memory)) it.0 asks (it.0, refl) it.1
-  by_answer old first last d t0 t1 t2 (Err fault.Damaged) holds it asks = absurd it
-  by_answer old first last d t0 t1 t2 (Err (fault.Layout n)) holds it asks = absurd it
-  by_answer old first last d t0 t1 t2 (Err fault.Broken) holds it asks = absurd it
-  by_answer old first last d t0 t1 t2 (Err fault.Follows) holds it asks = absurd it
+  by_answer : (old : Content) (first last : Store S g) (d : DeliveryValue) (t0 t1 t2 : Account) (r : Result Applied StoreFault) → Holds g first old → Applies g old d first last r → last.following ≡ first.following → TakesAlone g old d first last (outcome_of r)
+      → Asks old d t0 t1 t2 (outcome_of r) → IsLedOver g first last false old t0 t2 []
+  by_answer old first last d t0 t1 t2 (Ok applied.Done) holds it later alone asks = answered false false old it.after first last d t0 t1 t2 (Ok true) it.outcome.0 asks it.outcome it.holds (λ bad. absurd (false≢true bad)) (λ bad. absurd (false≢true bad)) (λ fresh bad. absurd (false≢true bad))
+  by_answer old first last d t0 t1 t2 (Ok applied.Repeat) holds it later alone asks = repeated false old first last d t0 t1 t2 (Ok false) it.0 (it.0, refl) asks (subst (λ (s : Store S g). Holds g s old) (sym it.1) holds) it.1 refl (λ bad. absurd (false≢true bad))
+  by_answer old first last d t0 t1 t2 (Err (fault.NoSuchRow at)) holds it later alone asks = answered false false old old first last d t0 t1 t2 (outcome_of (Err (fault.NoSuchRow at))) it.0.0 asks (it.0, refl) it.1 (λ bad. absurd (false≢true bad)) (λ bad. absurd (false≢true bad)) (λ fresh bad. absurd (false≢true bad))
+  by_answer old first last d t0 t1 t2 (Err (fault.CountFull at)) holds it later alone asks = answered false false old old first last d t0 t1 t2 (outcome_of (Err (fault.CountFull at))) it.0.0 asks (it.0, refl) it.1 (λ bad. absurd (false≢true bad)) (λ bad. absurd (false≢true bad)) (λ fresh bad. absurd (false≢true bad))
+  by_answer old first last d t0 t1 t2 (Err (fault.Database e)) holds it later alone asks =
+      answered false true old old first last d t0 t1 t2 (outcome_of (Err (fault.Database e))) it.0 asks (it.0, refl) it.1 (λ bad. absurd (false≢true bad)) (λ f. refl)
+      (λ fresh now. (
+        (state g first.conn).now.schema,
+        record {
+          each = λ trees may.
+              let l = alone.leaves trees may in
+              (l.0, subst (λ n. AreOf (state g first.conn).now.schema n l.0 trees) (sym later) l.1, elim l.2 [ inl same ↦ inl same | inr more ↦ inr (inl (tt, more)) ]);
+        },
+      ))
+  by_answer old first last d t0 t1 t2 (Err fault.Memory) holds it later alone asks =
+      answered false true old old first last d t0 t1 t2 (outcome_of (Err fault.Memory)) it.0 asks (it.0, refl) it.1 (λ bad. absurd (false≢true bad)) (λ f. refl)
+      (λ fresh now. (
+        (state g first.conn).now.schema,
+        record {
+          each = λ trees may.
+              let l = alone.leaves trees may in
+              (l.0, subst (λ n. AreOf (state g first.conn).now.schema n l.0 trees) (sym later) l.1, inl l.2);
+        },
+      ))
+  by_answer old first last d t0 t1 t2 (Err fault.Damaged) holds it later alone asks = absurd it
+  by_answer old first last d t0 t1 t2 (Err (fault.Layout n)) holds it later alone asks = absurd it
+  by_answer old first last d t0 t1 t2 (Err fault.Broken) holds it later alone asks = absurd it
+  by_answer old first last d t0 t1 t2 (Err fault.Follows) holds it later alone asks = absurd it
 
   -- a whole one
-  pub led_whole : (old : Content) (first last : Store S g) (d : DeliveryValue) (t0 t1 t2 : Account) (r : Result Applied StoreFault) (out : Result Bool Reason) → Holds g first old
-      → Applies g old d first last r → out ≡ outcome_of r → Asks old d t0 t1 t2 out → IsLedTo g first last false old t0 t2 []
-  led_whole old first last d t0 t1 t2 r out holds it is asks = by_answer old first last d t0 t1 t2 r holds it (subst (λ (o : Result Bool Reason). Asks old d t0 t1 t2 o) is asks)
+  pub led_whole : (old : Content) (first last : Store S g) (d : DeliveryValue) (t0 t1 t2 : Account) (r : Result Applied StoreFault) (out : Result Bool Reason) → Holds g first old → Applies g old d first last r → last.following ≡ first.following → TakesAlone g old d first last out
+      → out ≡ outcome_of r → Asks old d t0 t1 t2 out → IsLedOver g first last false old t0 t2 []
+  led_whole old first last d t0 t1 t2 r out holds it later alone is asks =
+      by_answer old first last d t0 t1 t2 r holds it later (subst (λ (o : Result Bool Reason). TakesAlone g old d first last o) is alone) (subst (λ (o : Result Bool Reason). Asks old d t0 t1 t2 o) is asks)

@@ -20,8 +20,8 @@ use Rattle.replica.specs.declared.clearing.ClearEnd.{ClearEnd}
 use Rattle.replica.specs.declared.clearing.ClearEnd.TheVariants.{Cleared, Repeat, Stopped}
 use Rattle.replica.specs.declared.clearing.TableRows.{TableRows}
 use Rattle.replica.specs.Clear.{is_in_table, ClearsTo, IsLeftOfClear}
-use Rattle.replica.specs.Noted.{Account, IsNotedSinceOpening}
-use Rattle.replica.specs.Over.{LeavesOnly}
+use Rattle.replica.specs.Noted.{Account, IsLeftOfNoted, IsNotedSinceOpening}
+use Rattle.replica.specs.Over.{LeavesOnly, HasStayed}
 
 -- as many deletes of a row of the table as it has copies, and none of another row
 abbrev pub deletes_of : List ℕ → List ℕ → Entry → List ChangeValue
@@ -56,28 +56,23 @@ end_by rows (Ok false) = Repeat
 end_by rows (Err reason) = Stopped reason
 
 module _ {S : Type 0} (g : Ghosts S) where
-  -- The store's set stands for this content, and so do its tables if the connection is still open; and whatever a crash may leave
-  -- is one of these contents.
-  pub record HasStayed (store : Store S g) (content : Content) (left : Content → Type 0) : Type 0 where
-    pub executed : store.executed ≡ content.executed
-    pub rest : IsTrue (database g store).is_open → IsAtRest (database g store) (names_of g store) content
-    pub schema : Schema
-    pub leaves : LeavesOnly g schema store left
-
   -- The deletes of the rows of the table are listed, and the store holds the content that it held; or it failed, and has that content.
   abbrev pub ListsDeletes : List ℕ → List ℕ → Content → Store S g → Result (List ChangeValue) StoreFault → Type 0
   ListsDeletes schema table content new (Ok changes) = AreDeletesOf schema table content.rows changes × Holds g new content
-  ListsDeletes schema table content new (Err cause) = IsFailure cause × HasStayed new content (λ left. left ≡ content)
+  ListsDeletes schema table content new (Err cause) = IsFailure cause × HasStayed g new content (λ left. left ≡ content)
 
   -- The store has the content that this end leads to.
   pub record HasCleared (names : Names) (schema table source : List ℕ) (number : ℕ) (store : Store S g) (old : Content) (end : ClearEnd) : Type 0 where
     pub new : Content
     pub clears : ClearsTo names schema table source number old end new
-    pub stays : HasStayed store new (IsLeftOfClear names schema table source number old end new)
+    pub stays : HasStayed g store new (IsLeftOfClear names schema table source number old end new)
 
-  -- What was reported to an observer since the opening leads from the old content to the one that the store has.
+  -- What was reported to an observer since the opening leads from the old content to the one that the store has, and a crash leaves
+  -- that, or one transaction more.
   pub record IsClearedSinceOpening (names : Names) (store : Store S g) (old : Content) (was is : Account) : Type 0 where
     pub new : Content
     pub executed : store.executed ≡ new.executed
     pub rest : IsTrue (database g store).is_open → IsAtRest (database g store) (names_of g store) new
     pub noted_of : IsNotedSinceOpening names old new was is []
+    pub schema : Schema
+    pub leaves : LeavesOnly g schema store (IsLeftOfNoted names noted_of.noted_of.notices new)

@@ -7,6 +7,7 @@ use Rattle.gtid.specs.Identifier.{Id, Ids}
 use Rattle.binlog.specs.Cell.{CellValue}
 use Rattle.binlog.specs.Filter.{Names, admits}
 use Rattle.store.specs.State.{Content, row_of}
+use Rattle.store.specs.Faults.{IsFailure}
 use Rattle.replica.specs.declared.loading.Unloadable.{Unloadable}
 use Rattle.replica.specs.declared.loading.Unloadable.TheVariants.{OtherSet, LeftOut, HasRows, Failed}
 
@@ -41,12 +42,20 @@ pub record MayBegin (names : Names) (content : Content) (ids : Ids) (tables : Na
 abbrev pub MayLoad : Names → Content → Ids → Id → Names → Type 0
 MayLoad names content ids first tables = (set.contains content.executed first ≡ true) ⊎ MayBegin names content ids tables
 
--- Why it may not.
+-- Why a copy that was not begun may not be: the database is not at its set; it is, and its filter leaves a table out; it is and leaves
+-- none out, and a table has rows; or the database failed, or memory ran out, before that was found out.
 abbrev pub IsUnloadable : Names → Content → Ids → Names → Unloadable → Type 0
 IsUnloadable names content ids tables OtherSet = ¬ IsAtSet content.executed ids
 IsUnloadable names content ids tables (LeftOut name) =
-    (set.contains tables (name.schema.items, name.table.items) ≡ true) × (admits names name.schema.items name.table.items ≡ false)
+    IsAtSet content.executed ids
+    × (set.contains tables (name.schema.items, name.table.items) ≡ true) × (admits names name.schema.items name.table.items ≡ false)
 IsUnloadable names content ids tables (HasRows name) =
-    (set.contains tables (name.schema.items, name.table.items) ≡ true)
+    IsAtSet content.executed ids × AreAdmitted names tables
+    × (set.contains tables (name.schema.items, name.table.items) ≡ true)
     × ((cells : List CellValue) × (1 ≤ content.rows (row_of name.schema.items name.table.items cells)))
-IsUnloadable names content ids tables (Failed fault) = Unit {0}
+IsUnloadable names content ids tables (Failed fault) = IsFailure fault
+
+-- A copy may not be loaded for this reason: it was not begun.
+pub record MayNotLoad (names : Names) (content : Content) (ids : Ids) (first : Id) (tables : Names) (why : Unloadable) : Type 0 where
+  pub not_begun : set.contains content.executed first ≡ false
+  pub reason : IsUnloadable names content ids tables why

@@ -15,6 +15,7 @@ pub mod Pieces
 pub mod Report
 pub mod Noted
 pub mod Missing
+pub mod Feed
 pub mod Failing
 pub mod Follow
 pub mod Resume

@@ -16,7 +16,7 @@ use Rattle.replica.specs.NotedFile.{IsNotedOfChange}
 use Rattle.replica.specs.File.{IsCleanlyClosed, KeepsContent}
 use Rattle.replica.specs.Change.{begun_with, MayStop, UnlessAdopted}
 use Rattle.replica.specs.ChangeFile.{ChangesFile}
-use Rattle.replica.specs.Copies.{MayLoad, IsUnloadable}
+use Rattle.replica.specs.Copies.{MayLoad, MayNotLoad}
 
 -- The copy might be loaded, and the closed files hold what its set and its transactions make of the content; or it might not, and they
 -- hold that content.
@@ -25,7 +25,7 @@ LoadsTo only left names old ids first tables applied (Changed end) closed =
     (IsCleanlyClosed closed → MayLoad names old ids first tables)
     × ChangesFile left names old ids (record { applied = applied; end = end; closed = closed })
 LoadsTo only left names old ids first tables applied (Refused why) closed =
-    (IsCleanlyClosed closed → IsUnloadable names old ids tables why) × KeepsContent only names old closed
+    (IsCleanlyClosed closed → MayNotLoad names old ids first tables why) × KeepsContent only names old closed
 
 abbrev pub LoadsFile : {D : Type 0} {g : Ghosts D} {E : Type 0} → Names → Supply → Names → Content → Ids → Id → Names → LoadedFile E D g → Type 0
 LoadsFile only left names old ids first tables done = LoadsTo only left names old ids first tables done.applied done.end done.closed

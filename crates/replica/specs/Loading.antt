@@ -2,7 +2,6 @@
 use Rattle.std.specs.Prelude.{◌≡◌, ℕ, true, false, [], Result, Ok, Err}
 use Rattle.std.specs.FinSet as set
 use Rattle.sqlite_trees.specs.declared.store.Store.{Ghosts}
-use Rattle.sqlite_schema.specs.declared.schema.Schema.{Schema}
 use Rattle.gtid.specs.Identifier.{Id, Ids}
 use Rattle.binlog.specs.Filter.{Names}
 use Rattle.store.specs.State.{Content}
@@ -15,13 +14,12 @@ use Rattle.replica.specs.declared.loading.Found.TheVariants.{Row, Memory}
 use Rattle.replica.specs.declared.loading.LoadEnd.{LoadEnd}
 use Rattle.replica.specs.declared.loading.LoadEnd.TheVariants.{Changed, Refused}
 use Rattle.replica.specs.declared.loading.Unloadable.{Unloadable}
-use Rattle.replica.specs.declared.loading.Unloadable.TheVariants.{OtherSet, LeftOut, HasRows, Failed}
 use Rattle.replica.specs.Given.{Supply}
-use Rattle.replica.specs.Over.{LeavesOnly}
+use Rattle.replica.specs.Over.{HasStayed}
 use Rattle.replica.specs.Noted.{Account, IsLedTo}
 use Rattle.replica.specs.Change.{begun_with}
 use Rattle.replica.specs.Changing.{HasChanged}
-use Rattle.replica.specs.Copies.{MayLoad, IsUnloadable}
+use Rattle.replica.specs.Copies.{MayLoad, MayNotLoad}
 
 -- The row is of none of the tables, or is found to be of one.
 abbrev pub IsLookedAt : Names → Entry → Result (Unit {0}) Found → Type 0
@@ -31,24 +29,15 @@ IsLookedAt tables entry (Err (Row name)) =
 IsLookedAt tables entry (Err Memory) = Unit {0}
 
 module _ {S : Type 0} (g : Ghosts S) where
-  -- The copy may be loaded, or may not, for this reason. The store holds the same content; after a failure of the database it keeps it.
+  -- The copy may be loaded, and the store holds the same content; or it may not, for this reason, and the store keeps that content.
   abbrev pub JudgesCopy : Names → Content → Ids → Id → Names → Store S g → Result (Unit {0}) Unloadable → Type 0
   JudgesCopy names content ids first tables new (Ok u) = Holds g new content × MayLoad names content ids first tables
-  JudgesCopy names content ids first tables new (Err (Failed fault)) = Keeps g new content
-  JudgesCopy names content ids first tables new (Err OtherSet) = Holds g new content × IsUnloadable names content ids tables OtherSet
-  JudgesCopy names content ids first tables new (Err (LeftOut name)) = Holds g new content × IsUnloadable names content ids tables (LeftOut name)
-  JudgesCopy names content ids first tables new (Err (HasRows name)) = Holds g new content × IsUnloadable names content ids tables (HasRows name)
-
-  -- The store keeps this content, and a crash leaves it.
-  pub record StaysAs (store : Store S g) (content : Content) : Type 0 where
-    pub keeps : Keeps g store content
-    pub schema : Schema
-    pub leaves : LeavesOnly g schema store (λ left. left ≡ content)
+  JudgesCopy names content ids first tables new (Err why) = Keeps g new content × MayNotLoad names content ids first tables why
 
   -- The store holds the content that was led to, or keeps the one from before; and this is what a crash leaves.
   abbrev pub HasLoaded : {E : Type 0} → Names → Store S g → Content → Ids → Id → Names → Supply → ℕ → LoadEnd E → Type 0
   HasLoaded names store old ids first tables left applied (Changed end) = MayLoad names old ids first tables × HasChanged g names store old ids left applied end
-  HasLoaded names store old ids first tables left applied (Refused why) = IsUnloadable names old ids tables why × StaysAs store old
+  HasLoaded names store old ids first tables left applied (Refused why) = MayNotLoad names old ids first tables why × HasStayed g store old (λ left. left ≡ old)
 
   -- What was reported leads from the content with the set added to the one that the store holds; of a copy that is refused nothing is.
   abbrev pub IsLedByLoad : {E : Type 0} → Store S g → Store S g → Content → Ids → Account → Account → LoadEnd E → Type 0

@@ -1,18 +1,21 @@
 -- What is reported to an observer of transactions and connections, and what follows from that.
-use Rattle.std.specs.Prelude.{◌≡◌, ◌≢◌, ◌⊎◌, ℕ, Bool, true, false, if◌then◌else◌, List, [], ◌∷◌, ◌++◌, Option, Some, None, Result, Ok, Err}
+use Rattle.std.specs.Prelude.{◌≡◌, ◌≢◌, ◌⊎◌, ◌||◌, ℕ, Bool, true, false, if◌then◌else◌, List, [], ◌∷◌, ◌++◌, Option, Some, None, Result, Ok, Err}
 use Rattle.sqlite_trees.specs.declared.store.Store.{Ghosts}
+use Rattle.sqlite_schema.specs.declared.schema.Schema.{Schema}
 use Rattle.std.specs.FinSet as set
 use Rattle.gtid.specs.Identifier.{Ids}
 use Rattle.binlog.specs.Filter.{Names}
 use Rattle.gather.specs.Transaction.{DeliveryValue}
 use Rattle.store.specs.State.{Content}
 use Rattle.store.specs.Changes.{HasOutcome, done, repeat, is_executed}
+use Rattle.store.specs.declared.fault.StoreFault.TheVariants as fault
 use Rattle.store.specs.declared.store.Store.{Store}
 use Rattle.store.specs.Store.{HoldsAs, names_of}
 use Rattle.replica.specs.declared.end.Reason.{Reason}
-use Rattle.replica.specs.declared.end.Reason.TheVariants.{Refused, ReadFailed, WriteFailed, Halted, Until}
+use Rattle.replica.specs.declared.end.Reason.TheVariants.{Refused, Database, Memory, ReadFailed, WriteFailed, Halted, Until}
 use Rattle.replica.specs.declared.end.Ended.{Ended}
 use Rattle.replica.specs.Conn.{AppliesAll, IsRefusedBy}
+use Rattle.replica.specs.Over.{LeavesOnly}
 use Rattle.replica.specs.Missing.{waits_for_none}
 
 -- What is reported to an observer: the executed set of a database that was opened; of a new transaction that it is to be applied, or that
@@ -122,6 +125,47 @@ LeadsBy names old (opened ids ∷ notices) new = (ids ≡ old.executed) × Leads
 LeadsBy names old (ended end true ∷ notices) new = LeadsBy names old notices new
 LeadsBy names old (ended end false ∷ notices) new = (notices ≡ []) × (new ≡ old)
 
+-- ---- After a failure.
+
+-- whether a transaction was reported with a failure of the database, or since memory ran out: then the store has failed
+abbrev pub fails_by : Result Bool Reason → Bool
+fails_by (Err (Database cause)) = true
+fails_by (Err Memory) = true
+fails_by _ = false
+
+abbrev pub has_failure : List Notice → Bool
+has_failure [] = false
+has_failure (after d answer ∷ notices) = fails_by answer || has_failure notices
+has_failure (_ ∷ notices) = has_failure notices
+
+-- After such a failure no transaction is applied.
+abbrev pub EndsAtFailure : List Notice → Type 0
+EndsAtFailure [] = Unit {0}
+EndsAtFailure (after d answer ∷ notices) = (fails_by answer ≡ true → applied_in notices ≡ []) × EndsAtFailure notices
+EndsAtFailure (_ ∷ notices) = EndsAtFailure notices
+
+-- The database has failed.
+abbrev pub IsDatabaseFailure : Result Bool Reason → Type 0
+IsDatabaseFailure (Err (Database (fault.Database cause))) = Unit {0}
+IsDatabaseFailure _ = ⊥
+
+-- What is reported next is that the database has failed in a transaction.
+abbrev pub NextFails : List Notice → Type 0
+NextFails (after d answer ∷ notices) = IsDatabaseFailure answer
+NextFails _ = ⊥
+
+-- One transaction more leads to what is left: one that was reported to be applied, and then, as the first failure, that the
+-- database failed in it.
+abbrev pub IsOneMoreNoted : Names → Content → List Notice → Content → Type 0
+IsOneMoreNoted names new [] left = ⊥
+IsOneMoreNoted names new (before d ∷ notices) left = (NextFails notices × HasOutcome names new d (done left)) ⊎ IsOneMoreNoted names new notices left
+IsOneMoreNoted names new (after d answer ∷ notices) left = (fails_by answer ≡ false) × IsOneMoreNoted names new notices left
+IsOneMoreNoted names new (_ ∷ notices) left = IsOneMoreNoted names new notices left
+
+-- What a crash leaves after this was reported, which leads to the new content: that content, or one transaction more.
+abbrev pub IsLeftOfNoted : Names → List Notice → Content → Content → Type 0
+IsLeftOfNoted names notices new left = (left ≡ new) ⊎ IsOneMoreNoted names new notices left
+
 -- What an observer has to say of itself.
 pub record Account : Type 0 where
   -- what was reported to it, if it keeps an account of that
@@ -164,11 +208,12 @@ BeginsWith executed (opened ids ∷ notices) = ids ≡ executed
 BeginsWith executed _ = ⊥
 
 -- The same since a database with the first content was opened. A connection of a list was read only if something was missing of what
--- the observer waited for.
+-- the observer waited for. After a failure of the store no transaction was applied.
 pub record IsNotedSinceOpening (names : Names) (old new : Content) (was is : Account) (ends : List Ended) : Type 0 where
   pub noted_of : IsNotedOf names old new was is ends
   pub begins : BeginsWith old.executed noted_of.notices
   pub missed : ends ≢ [] → WasMissing was.waits is.waits old.executed
+  pub fails : EndsAtFailure noted_of.notices
 
 -- Transactions led from a content to one in which some of these were not executed, and one more to this one.
 pub record EndsWithLast (names : Names) (old new : Content) (wanted : Ids) : Type 0 where
@@ -195,9 +240,23 @@ module _ {S : Type 0} (g : Ghosts S) where
     pub holds : HoldsAs g now_broken new after
     pub noted_of : IsNotedOf (names_of g before) old new was is ends
 
+  -- The same with what a failure leaves. A store that had failed before stays as it is. Where a failure was reported the store has
+  -- failed, and no transaction was applied after it; and of a store that has failed since a crash leaves the new content, or one
+  -- transaction more.
+  pub record IsLedOver (before after : Store S g) (broken : Bool) (old : Content) (was is : Account) (ends : List Ended) : Type 0 where
+    pub led : IsLedTo before after broken old was is ends
+    pub still : broken ≡ true → (after ≡ before) × (led.now_broken ≡ true) × (applied_in led.noted_of.notices ≡ [])
+    pub breaks : has_failure led.noted_of.notices ≡ true → led.now_broken ≡ true
+    pub fails : EndsAtFailure led.noted_of.notices
+    pub leaves : broken ≡ false → led.now_broken ≡ true
+        → (schema : Schema) × LeavesOnly g schema after (IsLeftOfNoted (names_of g before) led.noted_of.notices led.new)
+
   -- The same since a database with that content was opened.
   pub record IsLedSinceOpening (before after : Store S g) (broken : Bool) (old : Content) (was is : Account) (ends : List Ended) : Type 0 where
     pub now_broken : Bool
     pub new : Content
     pub holds : HoldsAs g now_broken new after
     pub noted_of : IsNotedSinceOpening (names_of g before) old new was is ends
+    pub breaks : has_failure noted_of.noted_of.notices ≡ true → now_broken ≡ true
+    pub leaves : broken ≡ false → now_broken ≡ true
+        → (schema : Schema) × LeavesOnly g schema after (IsLeftOfNoted (names_of g before) noted_of.noted_of.notices new)

@@ -12,7 +12,8 @@ use Rattle.binlog.specs.Filter.{Names}
 use Rattle.store.specs.State.{Content}
 use Rattle.replica.specs.declared.end.Ended.{Ended}
 use Rattle.replica.specs.File.{AreClosedWith}
-use Rattle.replica.specs.Noted.{Account, IsNotedOf, IsNotedSinceOpening, HasReached}
+use Rattle.replica.specs.FollowFile.{MayHold}
+use Rattle.replica.specs.Noted.{Account, IsLeftOfNoted, IsNotedOf, IsNotedSinceOpening, HasReached}
 
 -- The closed files hold a content of this kind; where they could not be closed, the database had come to one.
 abbrev pub ComeTo : {D : Type 0} {g : Ghosts D} → Names → (Content → Type 0) → Result (Files D) (Error × FileStore D g) → Type 0
@@ -20,10 +21,14 @@ ComeTo {D} {g} names Is closed = MatchResult closed
     (λ files. AreClean g files.log files.db → (new : Content) × AreClosedWith g names new files × Is new)
     (λ e. IsClean (view e.1) → (new : Content) × Is new)
 
--- What was reported to an observer since the opening leads from this content to the one that the closed files hold.
+-- What was reported to an observer since the opening leads from this content to the one that the closed files hold. Files that could
+-- not be closed may be left with that content, or with one transaction more, which was reported before it.
 abbrev pub IsNotedOfFiles : {D : Type 0} {g : Ghosts D} → Names → Content → Account → Account → List Ended
     → Result (Files D) (Error × FileStore D g) → Type 0
-IsNotedOfFiles names old was is ends closed = ComeTo names (λ new. IsNotedSinceOpening names old new was is ends) closed
+IsNotedOfFiles {D} {g} names old was is ends closed = MatchResult closed
+    (λ files. AreClean g files.log files.db → (new : Content) × AreClosedWith g names new files × IsNotedSinceOpening names old new was is ends)
+    (λ e. IsClean (view e.1) → (new : Content) × (since : IsNotedSinceOpening names old new was is ends)
+    × MayHold names e.1 (IsLeftOfNoted names since.noted_of.notices new))
 
 -- The same of a change, where nothing is reported if its set is not adopted.
 abbrev pub IsNotedOfChange : {D : Type 0} {g : Ghosts D} → Names → Content → Account → Account → Result (Files D) (Error × FileStore D g) → Type 0

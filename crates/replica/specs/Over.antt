@@ -1,10 +1,11 @@
 -- A session with its store, and a list of connections with a store.
-use Rattle.std.specs.Prelude.{◌≡◌, ℕ, ◌⊎◌, Bool, false, List, [], ◌++◌, Option}
+use Rattle.std.specs.Prelude.{◌≡◌, ℕ, ◌⊎◌, Bool, false, IsTrue, List, [], ◌++◌, Option}
 use Rattle.std.specs.Io.KnownBytes.{Consumes}
 use Rattle.sqlite_trees.specs.declared.store.Store.{Ghosts}
 use Rattle.sqlite_trees.specs.Tree.{Trees}
 use Rattle.sqlite_schema.specs.declared.schema.Schema.{Schema}
 use Rattle.store.specs.State.{Content}
+use Rattle.store.specs.Apply.{IsAtRest}
 use Rattle.store.specs.declared.store.Store.{Store}
 use Rattle.store.specs.Store.{HoldsAs, AreOf, database, names_of}
 use Rattle.replica.specs.declared.end.Ended.{Ended}
@@ -17,6 +18,14 @@ module _ {S : Type 0} (g : Ghosts S) where
   -- Whatever a crash may leave of the store's database stands, under the schema, for one of these contents.
   pub record LeavesOnly (schema : Schema) (store : Store S g) (left : Content → Type 0) : Type 0 where
     pub each : (trees : Trees) → (database g store).may_leave trees → (content : Content) × AreOf schema (names_of g store) content trees × left content
+
+  -- The store's set stands for this content, and so do its tables if the connection is still open; and whatever a crash may leave
+  -- is one of these contents.
+  pub record HasStayed (store : Store S g) (content : Content) (left : Content → Type 0) : Type 0 where
+    pub executed : store.executed ≡ content.executed
+    pub rest : IsTrue (database g store).is_open → IsAtRest (database g store) (names_of g store) content
+    pub schema : Schema
+    pub leaves : LeavesOnly schema store left
 
   -- The position of a session and its store: the session was begun when the store held this content under this schema
   -- and had failed or not, and it has read the bytes b and handed out the bytes o.

@@ -6,7 +6,7 @@ ghost use Rattle.store.specs.State.{Content};
 ghost use Rattle.store.specs.Store.{HoldsAs, IsBroken, database, names_of};
 ghost use Rattle.replica.specs.Capture.{HasReadOne, HasBrokenOff, Reads};
 ghost use Rattle.replica.specs.Over.{HasReadAll};
-ghost use Rattle.replica.specs.Noted.{IsLedTo, IsLedSinceOpening, MayEnd};
+ghost use Rattle.replica.specs.Noted.{IsLedOver, IsLedSinceOpening, MayEnd};
 
 use crate::config::Config;
 use crate::end::{Ended, Reason};
@@ -57,7 +57,7 @@ fn read_capture<R: Read + Drop, S: Alter, W: Observer>(
     ensures stays { (W.account observer.old).has_stopped ≡ true
         → (W.account observer.new).has_stopped ≡ true }
     ensures notes { HasCleanDisk (database S.Store store.new) → (was : Bool) (old : Content)
-        → HoldsAs S.Store was old store.old → IsLedTo S.Store store.old store.new was old
+        → HoldsAs S.Store was old store.old → IsLedOver S.Store store.old store.new was old
         (W.account observer.old) (W.account observer.new) [] }
     ensures heeds { (is : Bool) (now : Content) → HoldsAs S.Store is now store.old
         → (W.account observer.old).has_stopped ≡ true → store.new ≡ store.old }

@@ -6,7 +6,7 @@ ghost use Rattle.gtid.specs.Identifier.{Ids};
 ghost use Rattle.store.specs.State.{Content};
 ghost use Rattle.store.specs.Changes.{adopted};
 ghost use Rattle.store.specs.Store.{Holds, HoldsAs, database, names_of};
-ghost use Rattle.replica.specs.Noted.{IsLedTo};
+ghost use Rattle.replica.specs.Noted.{IsLedTo, IsLedOver};
 ghost use Rattle.replica.specs.Change.{begun_with, IsAdopted, UnlessAdopted, MayStop};
 ghost use Rattle.replica.specs.Changing.{TakesNext, HasChanged};
 
@@ -46,7 +46,7 @@ fn take_next<S: Alter, I: Deliveries, W: Observer>(
         → Holds S.Store store.old now → TakesNext S.Store now store.old store.new
         (I.supply deliveries.old) (I.supply deliveries.new) result }
     ensures notes { HasCleanDisk (database S.Store store.new) → (was : Bool) (old : Content)
-        → HoldsAs S.Store was old store.old → IsLedTo S.Store store.old store.new was old
+        → HoldsAs S.Store was old store.old → IsLedOver S.Store store.old store.new was old
         (W.account observer.old) (W.account observer.new) [] }
     ensures asked { IfErr result (λ end. MayStop end (W.account observer.new)) }
     ensures begun { IfErr result IsAdopted }
@@ -81,7 +81,7 @@ fn apply_all<S: Alter, I: Deliveries, W: Observer>(
         → HasChanged S.Store (names_of S.Store store.old) store.new old ids
         (I.supply deliveries.old) result.0 result.1 }
     ensures notes { HasCleanDisk (database S.Store store.new) → (was : Bool) (old : Content)
-        → HoldsAs S.Store was old store.old → IsLedTo S.Store store.old store.new was old
+        → HoldsAs S.Store was old store.old → IsLedOver S.Store store.old store.new was old
         (W.account observer.old) (W.account observer.new) [] }
     ensures asked { MayStop result.1 (W.account observer.new) }
     ensures begun { IsAdopted result.1 }

@@ -52,6 +52,7 @@ pub fn clear_file<P: Start, W: Observer>(
     // It stops for the observer only if that has stopped.
     ensures asked { IfOk result (λ done. MayEndClear done.end (W.account observer.new)) }
     // What was reported to the observer, from the executed set on, leads from the content to the one that the closed files hold.
+    // Files that could not be closed are left with that content, or with one transaction more, which was reported before it.
     ensures notes { IfOk result (λ done. (names : Names) (content : Content)
         → FilesHold (names_for None) names content (image_at P.Start)
         → IsNotedOfFiles names content (W.account observer.old) (W.account observer.new) []

@@ -7,7 +7,8 @@ ghost use Rattle.store.specs.State.{Content};
 ghost use Rattle.store.specs.Listing.{entry_of};
 ghost use Rattle.store.specs.Store.{Holds, database, names_of};
 ghost use Rattle.replica.specs.Clear.{is_in_table, MayEndClear};
-ghost use Rattle.replica.specs.Clearing.{TakesRow, gathered_of, ListsDeletes, end_by, HasStayed, HasCleared, IsClearedSinceOpening};
+ghost use Rattle.replica.specs.Over.{HasStayed};
+ghost use Rattle.replica.specs.Clearing.{TakesRow, gathered_of, ListsDeletes, end_by, HasCleared, IsClearedSinceOpening};
 
 use crate::connections::NoMemory;
 use crate::dump::apply;

@@ -17,7 +17,7 @@ ghost use Rattle.store.specs.Changes.{is_executed};
 ghost use Rattle.replica.specs.Conn.{IsOwn};
 ghost use Rattle.replica.specs.Alone.{TakesAlone, IsOwnOrHalted};
 ghost use Rattle.replica.specs.Event.{TakesEvent};
-ghost use Rattle.replica.specs.Noted.{HasBeenNoted, StillWaits, asked_about, IsLedTo, MayEnd};
+ghost use Rattle.replica.specs.Noted.{HasBeenNoted, StillWaits, asked_about, IsLedOver, MayEnd};
 ghost use Rattle.replica.specs.Missing.{waits_for_none};
 
 use crate::end::{Reason, Refusal};
@@ -141,7 +141,7 @@ pub(crate) fn apply<S: Alter, W: Observer>(
         → (W.account observer.old).has_stopped ≡ true → store.new ≡ store.old }
     // What was reported to the observer leads from the content before to the one afterwards.
     ensures notes { HasCleanDisk (database S.Store store.new) → (was : Bool) (old : Content)
-        → HoldsAs S.Store was old store.old → IsLedTo S.Store store.old store.new was old
+        → HoldsAs S.Store was old store.old → IsLedOver S.Store store.old store.new was old
         (W.account observer.old) (W.account observer.new) [] }
     ensures following { names_of S.Store store.new ≡ names_of S.Store store.old }
     ensures broken { IsBroken S.Store store.old → store.new ≡ store.old }
@@ -184,7 +184,7 @@ pub(crate) fn take_event<S: Alter, W: Observer>(
         → (W.account observer.old).has_stopped ≡ true → store.new ≡ store.old }
     // What was reported to the observer leads from the content before to the one afterwards.
     ensures notes { HasCleanDisk (database S.Store store.new) → (was : Bool) (old : Content)
-        → HoldsAs S.Store was old store.old → IsLedTo S.Store store.old store.new was old
+        → HoldsAs S.Store was old store.old → IsLedOver S.Store store.old store.new was old
         (W.account observer.old) (W.account observer.new) [] }
     ensures following { names_of S.Store store.new ≡ names_of S.Store store.old }
     ensures broken { IsBroken S.Store store.old → store.new ≡ store.old }

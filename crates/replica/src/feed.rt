@@ -11,7 +11,7 @@ ghost use Rattle.replica.specs.Standing.{Stands, end_of, room_of, taken_of};
 ghost use Rattle.replica.specs.Over.{StandsOver};
 ghost use Rattle.replica.specs.PayloadStep.{reason_of};
 ghost use Rattle.store.specs.Store.{HoldsAs, database, names_of, IsBroken};
-ghost use Rattle.replica.specs.Noted.{IsLedTo, MayEnd};
+ghost use Rattle.replica.specs.Noted.{IsLedOver, MayEnd};
 
 use crate::config::Config;
 use crate::end::{Ended, Reason};
@@ -115,7 +115,7 @@ impl Session {
             → (W.account observer.new).has_stopped ≡ true }
         // What was reported to it leads from the content before to the one afterwards.
         ensures notes { HasCleanDisk (database S.Store store.new) → (was : Bool) (old : Content)
-            → HoldsAs S.Store was old store.old → IsLedTo S.Store store.old store.new was old
+            → HoldsAs S.Store was old store.old → IsLedOver S.Store store.old store.new was old
             (W.account observer.old) (W.account observer.new) [] }
         // Once it has stopped, the store stays as it is.
         ensures heeds { (is : Bool) (now : Content) → HoldsAs S.Store is now store.old
@@ -159,7 +159,7 @@ impl Session {
         ensures stays { (W.account observer.old).has_stopped ≡ true
             → (W.account observer.new).has_stopped ≡ true }
         ensures notes { HasCleanDisk (database S.Store store.new) → (was : Bool) (old : Content)
-            → HoldsAs S.Store was old store.old → IsLedTo S.Store store.old store.new was old
+            → HoldsAs S.Store was old store.old → IsLedOver S.Store store.old store.new was old
             (W.account observer.old) (W.account observer.new) [] }
         ensures heeds { (is : Bool) (now : Content) → HoldsAs S.Store is now store.old
             → (W.account observer.old).has_stopped ≡ true → store.new ≡ store.old }

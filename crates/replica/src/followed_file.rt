@@ -121,6 +121,7 @@ pub fn follow_file<
         → (W.account observer.old).waits ≡ Some wanted
         → HaveReached names content wanted done.closed)) }
     // What was reported to the observer leads from that content to the one that the closed files hold.
+    // Files that could not be closed are left with that content, or with one transaction more, which was reported before it.
     ensures notes { IfOk result (λ done. (names : Names) (content : Content)
         → FilesHold (names_for (wanted_of only.entry)) names content (image_at P.Start)
         → IsNotedOfFiles names content (W.account observer.old)

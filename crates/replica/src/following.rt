@@ -8,7 +8,7 @@ ghost use Rattle.store.specs.State.{Content};
 ghost use Rattle.store.specs.Store.{HoldsAs, IsBroken, database, names_of};
 ghost use Rattle.replica.specs.Standing.{end_of};
 ghost use Rattle.replica.specs.Over.{StandsOver};
-ghost use Rattle.replica.specs.Noted.{IsLedTo, IsAsked, MayEnd};
+ghost use Rattle.replica.specs.Noted.{IsLedOver, IsAsked, MayEnd};
 ghost use Rattle.replica.specs.Missing.{waits_for_none};
 ghost use Rattle.replica.specs.Failing.{HaveFailed};
 ghost use Rattle.replica.specs.Follow.{Follows, HandsOut, sends_no_more_after, reads_failed, turns_left, failed_reads_of, failed_writes_of};
@@ -124,7 +124,7 @@ fn read_piece<T: Duplex, S: Alter, W: Observer>(
     ensures stays { (W.account observer.old).has_stopped ≡ true
         → (W.account observer.new).has_stopped ≡ true }
     ensures notes { HasCleanDisk (database S.Store store.new) → (was : Bool) (old : Content)
-        → HoldsAs S.Store was old store.old → IsLedTo S.Store store.old store.new was old
+        → HoldsAs S.Store was old store.old → IsLedOver S.Store store.old store.new was old
         (W.account observer.old) (W.account observer.new) [] }
     ensures heeds { (is : Bool) (now : Content) → HoldsAs S.Store is now store.old
         → (W.account observer.old).has_stopped ≡ true → store.new ≡ store.old }
@@ -226,7 +226,7 @@ pub fn follow_observed<T: Duplex, S: Alter, W: Observer>(
     ensures asked { IsAsked result.reason (W.account observer.new) }
     // What was reported to it leads from the content before to the one afterwards.
     ensures notes { HasCleanDisk (database S.Store store.new) → (was : Bool) (old : Content)
-        → HoldsAs S.Store was old store.old → IsLedTo S.Store store.old store.new was old
+        → HoldsAs S.Store was old store.old → IsLedOver S.Store store.old store.new was old
         (W.account observer.old) (W.account observer.new) [] }
     // If it waits for nothing, nothing is read or sent.
     ensures until { waits_for_none (W.account observer.old).waits ≡ true

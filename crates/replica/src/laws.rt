@@ -37,6 +37,7 @@ ghost use Rattle.replica.specs.Follow.{HandsOut, IsInFull};
 ghost use Rattle.replica.specs.File.{FilesHold, AreClosedWith, IsTurnedAway};
 ghost use Rattle.replica.specs.Noted.{Account, IsNotedOf, Notice, opened, before, LeadsBy, applied_in, StillWaits, WereMissed};
 ghost use Rattle.replica.specs.Missing.{waits_for_none};
+ghost use Rattle.replica.specs.Feed.{Line, open_line, Reader, at_first, read_line, read_lines, with_changes, AreFed, all_lines};
 ghost use Rattle.replica.specs.Restart.{Starts, IsUncut, MayFindUnopened, AreStarts, HoldFirst, FilesNeverFall};
 ghost use Rattle.replica.specs.Resume.{Resumes, Leads, Reaches, AreRestarts, NeverFalls, part_changes, transaction, transactions, end_reason};
 
@@ -161,6 +162,23 @@ pub fn led()
         → AppliesAll names old (applied_in notices) (length (applied_in notices)) new }
     ensures one { (names : Names) (old new other : Content) (notices : List Notice)
         → LeadsBy names old notices new → LeadsBy names old notices other → new ≡ other }
+{}
+
+/// A reader of a change feed that keeps to its rules uses each transaction of the database that has changes exactly once, in order and
+/// with these changes, over any number of runs: each is over the database that the one before has left, and may be stopped anywhere.
+pub fn consumed()
+    // A reader of the lines of all runs, and of an open with the set that is executed after them.
+    ensures once { (names : Names) (first last : Content) (runs : List (List Line))
+        → AreFed names first runs last → (ds : List DeliveryValue)
+        × AppliesAll names first ds (length ds) last
+        × (with_changes (read_lines at_first
+        (all_lines runs ++ open_line last.executed ∷ [])).taken ≡ with_changes ds) }
+    // After a part of the lines it has used the first of the transactions that it has used after more of them.
+    ensures grows { (r : Reader) (part more : List Line) → (ds : List DeliveryValue)
+        × ((read_lines r (part ++ more)).taken ≡ (read_lines r part).taken ++ ds) }
+    // An open that comes again changes nothing, so that one may be left out where the line before it is the same.
+    ensures again { (r : Reader) (ids : Ids)
+        → read_line (read_line r (open_line ids)) (open_line ids) ≡ read_line r (open_line ids) }
 {}
 
 /// If what was reported to an observer leads from one content to another, and it waits for nothing more, then all transactions that it

@@ -11,7 +11,7 @@ ghost use Rattle.replica.specs.Conn.{IsOwn};
 ghost use Rattle.replica.specs.Over.{StandsOver, MeetsOver};
 ghost use Rattle.replica.specs.declared.phase.Phase.TheVariants as phase;
 ghost use Rattle.store.specs.Store.{HoldsAs, database, names_of, IsBroken};
-ghost use Rattle.replica.specs.Noted.{IsLedTo, MayEnd};
+ghost use Rattle.replica.specs.Noted.{IsLedOver, MayEnd};
 ghost use Rattle.replica.specs.Missing.{waits_for_none};
 
 use crate::dump::take_event;
@@ -129,7 +129,7 @@ impl Session {
         ensures stays { (W.account observer.old).has_stopped ≡ true
             → (W.account observer.new).has_stopped ≡ true }
         ensures notes { HasCleanDisk (database S.Store store.new) → (was : Bool) (old : Content)
-            → HoldsAs S.Store was old store.old → IsLedTo S.Store store.old store.new was old
+            → HoldsAs S.Store was old store.old → IsLedOver S.Store store.old store.new was old
             (W.account observer.old) (W.account observer.new) [] }
         ensures heeds { (is : Bool) (now : Content) → HoldsAs S.Store is now store.old
             → (W.account observer.old).has_stopped ≡ true → store.new ≡ store.old }
@@ -180,7 +180,7 @@ impl Session {
         ensures stays { (W.account observer.old).has_stopped ≡ true
             → (W.account observer.new).has_stopped ≡ true }
         ensures notes { HasCleanDisk (database S.Store store.new) → (was : Bool) (old : Content)
-            → HoldsAs S.Store was old store.old → IsLedTo S.Store store.old store.new was old
+            → HoldsAs S.Store was old store.old → IsLedOver S.Store store.old store.new was old
             (W.account observer.old) (W.account observer.new) [] }
         ensures heeds { (is : Bool) (now : Content) → HoldsAs S.Store is now store.old
             → (W.account observer.old).has_stopped ≡ true → store.new ≡ store.old }

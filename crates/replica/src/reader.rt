@@ -9,7 +9,7 @@ ghost use Rattle.store.specs.Store.{HoldsAs, IsBroken, database, names_of};
 ghost use Rattle.replica.specs.declared.end.Reason.TheVariants.{EndOfInput};
 ghost use Rattle.replica.specs.declared.end.Ended.{Ended as End};
 ghost use Rattle.replica.specs.Over.{HasReadOf};
-ghost use Rattle.replica.specs.Noted.{IsLedTo, MayEnd};
+ghost use Rattle.replica.specs.Noted.{IsLedOver, MayEnd};
 
 use crate::config::Config;
 use crate::end::Ended;
@@ -72,7 +72,7 @@ pub fn read_stream<R: Read, S: Alter, W: Observer>(
         → (W.account observer.new).has_stopped ≡ true }
     // What was reported to it leads from the content before to the one afterwards.
     ensures notes { HasCleanDisk (database S.Store store.new) → (was : Bool) (old : Content)
-        → HoldsAs S.Store was old store.old → IsLedTo S.Store store.old store.new was old
+        → HoldsAs S.Store was old store.old → IsLedOver S.Store store.old store.new was old
         (W.account observer.old) (W.account observer.new) [] }
     // Once it has stopped, the store stays as it is.
     ensures heeds { (is : Bool) (now : Content) → HoldsAs S.Store is now store.old

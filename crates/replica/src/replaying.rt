@@ -76,6 +76,7 @@ pub fn replay<P: Start, R: Read + Drop, W: Observer>(
     ensures no_more { IfOk result (λ done. (W.account observer.old).has_stopped ≡ true
         → length done.ends.items ≤ 1) }
     // What was reported to the observer leads from that content to the one that the closed files hold, with the ends.
+    // Files that could not be closed are left with that content, or with one transaction more, which was reported before it.
     ensures notes { IfOk result (λ done. (names : Names) (content : Content)
         → FilesHold (names_for (wanted_of only.entry)) names content (image_at P.Start)
         → IsNotedOfFiles names content (W.account observer.old)

@@ -1,25 +1,54 @@
 /* Kills a program that is linked with the C library before its call number KILL_AT, from 1, of those that change a file or
-   wait for the disk. With KILL_TORN set, half of what the call would have written is written first. To be loaded before the
-   library (LD_PRELOAD). */
+   wait for the disk. With KILL_TORN set, half of what the call would have written is written first; with KILL_LOSES set, the
+   file of this name loses what was written to it since it was synced, as a power failure may take it. To be loaded before
+   the library (LD_PRELOAD). */
 #define _GNU_SOURCE
 #include <dlfcn.h>
 #include <fcntl.h>
 #include <signal.h>
 #include <stdarg.h>
 #include <stdlib.h>
+#include <sys/stat.h>
 #include <sys/types.h>
 #include <unistd.h>
 
 static long left;
 
+/* The file that loses what is not synced, and how much of it is. */
+static const char *loses;
+static off_t synced;
+
 __attribute__((constructor)) static void begin(void) {
     const char *at = getenv("KILL_AT");
+    struct stat found;
     left = at ? atol(at) : 0;
+    loses = getenv("KILL_LOSES");
+    synced = loses && !stat(loses, &found) ? found.st_size : 0;
 }
 
 static int is_last(void) { return left > 0 && --left == 0; }
 
-static void end(void) { kill(getpid(), SIGKILL); }
+static void end(void) {
+    struct stat found;
+    if (loses && !stat(loses, &found) && found.st_size > synced) (void)!truncate(loses, synced);
+    kill(getpid(), SIGKILL);
+}
+
+/* A file that was synced: whether it is the one that loses. */
+static int note(int file, int result) {
+    struct stat this, found;
+    if (!result && loses && !fstat(file, &this) && !stat(loses, &found) && this.st_dev == found.st_dev && this.st_ino == found.st_ino) synced = this.st_size;
+    return result;
+}
+
+/* Defines a call that waits for the disk. */
+#define SYNC(name)                                                    \
+    int name(int file) {                                              \
+        static int (*next)(int);                                      \
+        if (!next) *(void **)&next = dlsym(RTLD_NEXT, #name);         \
+        if (is_last()) end();                                         \
+        return note(file, next(file));                                \
+    }
 
 /* Defines a call with these parameters and arguments that is counted. */
 #define CALL(type, name, parameters, arguments)                       \
@@ -43,8 +72,8 @@ static void end(void) { kill(getpid(), SIGKILL); }
         return next arguments;                                        \
     }
 
-CALL(int, fsync, (int file), (file))
-CALL(int, fdatasync, (int file), (file))
+SYNC(fsync)
+SYNC(fdatasync)
 CALL(int, ftruncate, (int file, off_t size), (file, size))
 CALL(int, link, (const char *from, const char *to), (from, to))
 CALL(int, linkat, (int at, const char *from, int in, const char *to, int flags), (at, from, in, to, flags))

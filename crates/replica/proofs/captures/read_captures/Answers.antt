@@ -100,12 +100,12 @@ loop-capture-preserved g c =
           (λ some. missing_later (g.W.Observer.account c.args.observer.now).waits (g.W.Observer.account c.read_capture.new.observer).waits (g.W.Observer.account c.ended-goes_on.new.self).waits [] old.executed c.ended-goes_on.ensures.waits
           (let led = inv.notes (c.read_capture.ensures.clean clean) was old holds in
           let next = c.read_capture.ensures.notes clean led.now_broken led.new led.holds in
-          missing_later (g.W.Observer.account c.args.observer.now).waits (g.W.Observer.account c.loop-capture.observer).waits (g.W.Observer.account c.read_capture.new.observer).waits next.noted_of.notices old.executed next.noted_of.waits (inv.missed (c.read_capture.ensures.clean clean) was old holds))));
+          missing_later (g.W.Observer.account c.args.observer.now).waits (g.W.Observer.account c.loop-capture.observer).waits (g.W.Observer.account c.read_capture.new.observer).waits next.led.noted_of.notices old.executed next.led.noted_of.waits (inv.missed (c.read_capture.ensures.clean clean) was old holds))));
       missed = λ clean was old holds.
           missing_later (g.W.Observer.account c.args.observer.now).waits (g.W.Observer.account c.read_capture.new.observer).waits (g.W.Observer.account c.ended-goes_on.new.self).waits [] old.executed c.ended-goes_on.ensures.waits
           (let led = inv.notes (c.read_capture.ensures.clean clean) was old holds in
           let next = c.read_capture.ensures.notes clean led.now_broken led.new led.holds in
-          missing_later (g.W.Observer.account c.args.observer.now).waits (g.W.Observer.account c.loop-capture.observer).waits (g.W.Observer.account c.read_capture.new.observer).waits next.noted_of.notices old.executed next.noted_of.waits (inv.missed (c.read_capture.ensures.clean clean) was old holds));
+          missing_later (g.W.Observer.account c.args.observer.now).waits (g.W.Observer.account c.loop-capture.observer).waits (g.W.Observer.account c.read_capture.new.observer).waits next.led.noted_of.notices old.executed next.led.noted_of.waits (inv.missed (c.read_capture.ensures.clean clean) was old holds));
       taken = λ clean was old holds.
           let t = inv.taken (c.read_capture.ensures.clean clean) was old holds in
           subst₂ (λ (l : List (Capture g.row.R.Denot)) (es : List Ended). AreRead g.R.Read.remaining (HasReadAll g.S.Store c.args.config.now.limit c.read_capture.new.store (state g.S.Store c.args.store.now.conn).now.schema was old) l es) (sym more) (sym ends)
@@ -165,7 +165,7 @@ returns-in-Err-clause-notes g c clean was old holds =
     (λ some.
     let led = inv.notes (c.read_capture.ensures.clean clean) was old holds in
     let next = c.read_capture.ensures.notes clean led.now_broken led.new led.holds in
-    missing_later (g.W.Observer.account c.args.observer.now).waits (g.W.Observer.account c.loop-capture.observer).waits (g.W.Observer.account c.read_capture.new.observer).waits next.noted_of.notices old.executed next.noted_of.waits (inv.missed (c.read_capture.ensures.clean clean) was old holds)))
+    missing_later (g.W.Observer.account c.args.observer.now).waits (g.W.Observer.account c.loop-capture.observer).waits (g.W.Observer.account c.read_capture.new.observer).waits next.led.noted_of.notices old.executed next.led.noted_of.waits (inv.missed (c.read_capture.ensures.clean clean) was old holds)))
 
 pub returns-then-not-goes_on-clause-notes : goal.returns-then-not-goes_on-clause-notes
 returns-then-not-goes_on-clause-notes g c clean was old holds =
@@ -180,7 +180,7 @@ returns-then-not-goes_on-clause-notes g c clean was old holds =
     (λ some. missing_later (g.W.Observer.account c.args.observer.now).waits (g.W.Observer.account c.read_capture.new.observer).waits (g.W.Observer.account c.ended-goes_on.new.self).waits [] old.executed c.ended-goes_on.ensures.waits
     (let led = inv.notes (c.read_capture.ensures.clean clean) was old holds in
     let next = c.read_capture.ensures.notes clean led.now_broken led.new led.holds in
-    missing_later (g.W.Observer.account c.args.observer.now).waits (g.W.Observer.account c.loop-capture.observer).waits (g.W.Observer.account c.read_capture.new.observer).waits next.noted_of.notices old.executed next.noted_of.waits (inv.missed (c.read_capture.ensures.clean clean) was old holds))))
+    missing_later (g.W.Observer.account c.args.observer.now).waits (g.W.Observer.account c.loop-capture.observer).waits (g.W.Observer.account c.read_capture.new.observer).waits next.led.noted_of.notices old.executed next.led.noted_of.waits (inv.missed (c.read_capture.ensures.clean clean) was old holds))))
 
 pub returns-clause-notes : goal.returns-clause-notes
 returns-clause-notes g c = c.loop-capture.invariant.notes

@@ -25,9 +25,9 @@ returns-in-Ok-clause-notes g c clean old holds =
     let whole : Holds g.S.Store store begin = c.in-Ok.ensures.adopts (c.apply_all.ensures.clean clean) old holds in
     begun_is c.apply_all.result.1 old c.args.gtids.now c.apply_all.ensures.begun (λ b. IsLedTo g.S.Store c.args.store.now c.apply_all.new.store false b (g.W.Observer.account c.args.observer.now) (g.W.Observer.account c.apply_all.new.observer) [])
     (led_likewise g.S.Store c.args.store.now store c.apply_all.new.store false begin (g.W.Observer.account c.args.observer.now) (g.W.Observer.account c.apply_all.new.observer) [] c.adopt.ensures.following
-    (led_through g.S.Store false begin store store c.apply_all.new.store (g.W.Observer.account c.args.observer.now) (g.W.Observer.account c.opened.new.self) (g.W.Observer.account c.apply_all.new.observer) [] [] refl (λ some. absurd (some refl))
+    ((led_through g.S.Store false begin store store c.apply_all.new.store (g.W.Observer.account c.args.observer.now) (g.W.Observer.account c.opened.new.self) (g.W.Observer.account c.apply_all.new.observer) [] [] refl (λ some. absurd (some refl))
     (led_from g.S.Store false begin store c.executed.result.now (g.W.Observer.account c.args.observer.now) (g.W.Observer.account c.opened.new.self) whole (c.executed.ensures.value false begin whole) c.opened.ensures.noted c.opened.ensures.stays c.opened.ensures.waits)
-    (λ is now held. c.apply_all.ensures.notes clean is now held)))
+    (λ is now held. c.apply_all.ensures.notes clean is now held)).led))
 
 pub returns-in-Err-clause-notes : goal.returns-in-Err-clause-notes
 returns-in-Err-clause-notes g c clean old holds = led_unadopted g.S.Store c.args.store.now c.adopt.new.self old c.args.gtids.now c.in-Err.fault (g.W.Observer.account c.args.observer.now) (c.in-Err.ensures.adopts clean old holds)

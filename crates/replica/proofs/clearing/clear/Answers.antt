@@ -10,7 +10,7 @@ returns-then-contains-clause-clears g c clean old holds =
 
 pub returns-then-contains-clause-notes : goal.returns-then-contains-clause-notes
 returns-then-contains-clause-notes g c clean old holds =
-    led_opened g.S.Store c.args.store.now.following old c.args.store.now (g.W.Observer.account c.args.observer.now) (g.W.Observer.account c.opened.new.self) holds.executed (λ is_open. holds.rest)
+    led_opened g.S.Store c.args.store.now.following old c.args.store.now (g.W.Observer.account c.args.observer.now) (g.W.Observer.account c.opened.new.self) (stays_whole g.S.Store (λ h db is_open may. g.met.S.Store.settled h.store db is_open may) c.args.store.now old (λ left. left ≡ old) refl holds)
     (opened_noted c.args.store.now.following old c.executed.result.now (g.W.Observer.account c.args.observer.now) (g.W.Observer.account c.opened.new.self) (c.executed.ensures.value false old holds) c.opened.ensures.noted c.opened.ensures.stays c.opened.ensures.waits)
 
 pub returns-then-not-follows-clause-clears : goal.returns-then-not-follows-clause-clears
@@ -21,7 +21,7 @@ returns-then-not-follows-clause-clears g c clean old holds =
 
 pub returns-then-not-follows-clause-notes : goal.returns-then-not-follows-clause-notes
 returns-then-not-follows-clause-notes g c clean old holds =
-    led_opened g.S.Store c.args.store.now.following old c.args.store.now (g.W.Observer.account c.args.observer.now) (g.W.Observer.account c.opened.new.self) holds.executed (λ is_open. holds.rest)
+    led_opened g.S.Store c.args.store.now.following old c.args.store.now (g.W.Observer.account c.args.observer.now) (g.W.Observer.account c.opened.new.self) (stays_whole g.S.Store (λ h db is_open may. g.met.S.Store.settled h.store db is_open may) c.args.store.now old (λ left. left ≡ old) refl holds)
     (opened_noted c.args.store.now.following old c.executed.result.now (g.W.Observer.account c.args.observer.now) (g.W.Observer.account c.opened.new.self) (c.executed.ensures.value false old holds) c.opened.ensures.noted c.opened.ensures.stays c.opened.ensures.waits)
 
 pub returns-in-Err-clause-clears : goal.returns-in-Err-clause-clears
@@ -35,8 +35,7 @@ returns-in-Err-clause-clears g c clean old holds =
 
 pub returns-in-Err-clause-notes : goal.returns-in-Err-clause-notes
 returns-in-Err-clause-notes g c clean old holds =
-    let stayed = (c.in-Err.ensures.lists clean old holds).1 in
-    led_opened g.S.Store c.args.store.now.following old c.list_deletes.new.store (g.W.Observer.account c.args.observer.now) (g.W.Observer.account c.opened.new.self) stayed.executed stayed.rest
+    led_opened g.S.Store c.args.store.now.following old c.list_deletes.new.store (g.W.Observer.account c.args.observer.now) (g.W.Observer.account c.opened.new.self) (c.in-Err.ensures.lists clean old holds).1
     (opened_noted c.args.store.now.following old c.executed.result.now (g.W.Observer.account c.args.observer.now) (g.W.Observer.account c.opened.new.self) (c.executed.ensures.value false old holds) c.opened.ensures.noted c.opened.ensures.stays c.opened.ensures.waits)
 
 pub returns-clause-clears : goal.returns-clause-clears
@@ -53,9 +52,9 @@ returns-clause-clears g c clean old holds =
 pub returns-clause-notes : goal.returns-clause-notes
 returns-clause-notes g c clean old holds =
     let whole : Holds g.S.Store c.list_deletes.new.store old = (c.in-Ok.ensures.lists (c.apply.ensures.clean clean) old holds).1 in
-    led_applied g.S.Store c.args.store.now c.list_deletes.new.store c.apply.new.store old (g.W.Observer.account c.args.observer.now) (g.W.Observer.account c.opened.new.self) (g.W.Observer.account c.apply.new.observer) c.list_deletes.ensures.following whole
+    led_applied g.S.Store (λ h db is_open may. g.met.S.Store.settled h.store db is_open may) c.args.store.now c.list_deletes.new.store c.apply.new.store old (g.W.Observer.account c.args.observer.now) (g.W.Observer.account c.opened.new.self) (g.W.Observer.account c.apply.new.observer) c.list_deletes.ensures.following whole
     (opened_noted c.args.store.now.following old c.executed.result.now (g.W.Observer.account c.args.observer.now) (g.W.Observer.account c.opened.new.self) (c.executed.ensures.value false old holds) c.opened.ensures.noted c.opened.ensures.stays c.opened.ensures.waits)
-    (λ is now held. c.apply.ensures.notes clean is now held)
+    refl (λ is now held. c.apply.ensures.notes clean is now held)
 
 pub returns-then-contains-clause-heeds : goal.returns-then-contains-clause-heeds
 returns-then-contains-clause-heeds g c clean old holds on = stays_whole g.S.Store (λ h db is_open may. g.met.S.Store.settled h.store db is_open may) c.args.store.now old (λ left. left ≡ old) refl holds

@@ -2,7 +2,7 @@ use Rattle.std.proofs.Common.{Bool, true, false, [], subst, sym, ◌∙◌}
 use Rattle.gather.specs.View.{delivery_value}
 use Rattle.store.specs.Store.{HoldsAs}
 use Rattle.replica.specs.Event.{TakesEvent}
-use Rattle.replica.specs.Noted.{HasBeenNoted, asked_about, Account, IsLedTo}
+use Rattle.replica.specs.Noted.{HasBeenNoted, asked_about, Account, IsLedOver}
 use Rattle.replica.proofs.Noted.{Asks, led_to_stop, led_broken, led_whole}
 use Rattle.replica.proofs.Events.{halts, over_broken, over_whole, heeded}
 use Rattle.replica.proofs.Alone.{own_alone, taken_alone}
@@ -54,9 +54,10 @@ returns-clause-notes g c clean was old holds =
       waits = c.after_apply.ensures.waits;
       missed = λ fresh. c.is_halted.ensures.missed was old holds fresh c.if-is_halted.false;
     } in
-    elim was as (λ b. HoldsAs g.S.Store b old store → IsLedTo g.S.Store store new b old t0 t2 []) [
+    elim was as (λ b. HoldsAs g.S.Store b old store → IsLedOver g.S.Store store new b old t0 t2 []) [
       | true ↦ λ holds. led_broken g.S.Store old store new d t0 t1 t2 c.apply.result c.outcome-outcome.result holds (c.apply.ensures.broken holds.broken) c.outcome-outcome.ensures.maps asks
-      | false ↦ λ holds. led_whole g.S.Store old store new d t0 t1 t2 c.apply.result c.outcome-outcome.result holds (c.apply.ensures.applies clean old holds) c.outcome-outcome.ensures.maps asks
+      | false ↦ λ holds. led_whole g.S.Store old store new d t0 t1 t2 c.apply.result c.outcome-outcome.result holds (c.apply.ensures.applies clean old holds) c.apply.ensures.following
+          (taken_alone g.S.Store old store new d c.apply.result c.outcome-outcome.result holds (c.apply.ensures.applies clean old holds) (c.apply.ensures.crash clean old holds) c.outcome-outcome.ensures.maps) c.outcome-outcome.ensures.maps asks
     ] holds
 
 pub returns-then-is_halted-clause-alone : goal.returns-then-is_halted-clause-alone

@@ -4,7 +4,7 @@ use Rattle.store.specs.State.{Content}
 use Rattle.store.specs.Store.{HoldsAs, IsBroken, database, names_of}
 use Rattle.replica.specs.Conn.{IsNoStreamFailure}
 use Rattle.replica.specs.Standing.{end_of}
-use Rattle.replica.specs.Noted.{IsLedTo, MayEnd}
+use Rattle.replica.specs.Noted.{IsLedOver, MayEnd}
 use Rattle.replica.specs.Failing.{HaveFailed}
 use Rattle.replica.specs.Follow.{IsFollowing, turns_left}
 use Rattle.replica.proofs.following.follow_observed.Given as goal
@@ -22,7 +22,7 @@ invariant-turns g l = record {
   may_end : IsNoStreamFailure (end_of l.session).reason;
   stays : (g.W.Observer.account l.fn.observer).has_stopped ≡ true → (g.W.Observer.account l.observer).has_stopped ≡ true;
   heeds : (is : Bool) (now : Content) → HoldsAs g.S.Store is now l.fn.store → (g.W.Observer.account l.fn.observer).has_stopped ≡ true → l.store ≡ l.fn.store;
-  notes : HasCleanDisk (database g.S.Store l.store) → (was : Bool) (old : Content) → HoldsAs g.S.Store was old l.fn.store → IsLedTo g.S.Store l.fn.store l.store was old (g.W.Observer.account l.fn.observer) (g.W.Observer.account l.observer) [];
+  notes : HasCleanDisk (database g.S.Store l.store) → (was : Bool) (old : Content) → HoldsAs g.S.Store was old l.fn.store → IsLedOver g.S.Store l.fn.store l.store was old (g.W.Observer.account l.fn.observer) (g.W.Observer.account l.observer) [];
   may : MayEnd (end_of l.session).reason (g.W.Observer.account l.observer);
   following : HasCleanDisk (database g.S.Store l.store) → (was : Bool) (old : Content) → HoldsAs g.S.Store was old l.fn.store
       → IsFollowing g.S.Store l.session l.fn.store l.store was old

@@ -1,4 +1,4 @@
-use Rattle.std.proofs.Common.{◌≡◌, false, refl}
+use Rattle.std.proofs.Common.{◌≡◌, false, inl, refl}
 use Rattle.std.proofs.lemmas.List.Elements.{All-weaker}
 use Rattle.sqlite_wal.specs.Files.{image_at}
 use Rattle.store.specs.Entering.{wanted_of, names_for}
@@ -29,7 +29,7 @@ returns-clause-keeps g c on names content files =
 
 pub returns-clause-notes : goal.returns-clause-notes
 returns-clause-notes g c names content files =
-    noted_of_files _ names content c.in_ok-store.store c.read_captures-read.new.store (g.W.Observer.account c.args.observer.now) (g.W.Observer.account c.read_captures-read.new.observer) c.read_captures-read.new.ends.items c.close_file-closed.result
+    noted_of_files _ names content c.in_ok-store.store c.read_captures-read.new.store (λ file. inl refl) (g.W.Observer.account c.args.observer.now) (g.W.Observer.account c.read_captures-read.new.observer) c.read_captures-read.new.ends.items c.close_file-closed.result
     c.read_captures-read.ensures.following (λ clean. let o = c.in_ok-store.ensures.opens (c.read_captures-read.ensures.clean clean) names content files in (o.0, o.1))
     c.read_captures-read.ensures.notes c.close_file-closed.ensures.copied c.close_file-closed.ensures.err
 

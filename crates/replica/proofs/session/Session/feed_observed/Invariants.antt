@@ -2,7 +2,7 @@ use Rattle.std.proofs.Common.{◌≡◌, ◌+◌, ◌≤◌, Bool, [], length, t
 use Rattle.store.specs.State.{Content}
 use Rattle.sqlite.specs.State.{HasCleanDisk}
 use Rattle.store.specs.Store.{HoldsAs, database}
-use Rattle.replica.specs.Noted.{IsLedTo, MayEnd}
+use Rattle.replica.specs.Noted.{IsLedOver, MayEnd}
 use Rattle.replica.specs.Standing.{end_of, room_of}
 use Rattle.replica.proofs.Fed.{Fed}
 use Rattle.replica.proofs.session.Session.feed_observed.Given as goal
@@ -16,7 +16,7 @@ invariant-loop-used g l = record {
   may_end : MayEnd (end_of l.fn.self).reason (g.W.Observer.account l.fn.observer) → MayEnd (end_of l.self).reason (g.W.Observer.account l.observer);
   stays : (g.W.Observer.account l.fn.observer).has_stopped ≡ true → (g.W.Observer.account l.observer).has_stopped ≡ true;
   heeds : (is : Bool) (now : Content) → HoldsAs g.S.Store is now l.fn.store → (g.W.Observer.account l.fn.observer).has_stopped ≡ true → l.store ≡ l.fn.store;
-  notes : HasCleanDisk (database g.S.Store l.store) → (was : Bool) (old : Content) → HoldsAs g.S.Store was old l.fn.store → IsLedTo g.S.Store l.fn.store l.store was old (g.W.Observer.account l.fn.observer) (g.W.Observer.account l.observer) [];
+  notes : HasCleanDisk (database g.S.Store l.store) → (was : Bool) (old : Content) → HoldsAs g.S.Store was old l.fn.store → IsLedOver g.S.Store l.fn.store l.store was old (g.W.Observer.account l.fn.observer) (g.W.Observer.account l.observer) [];
   room : l.self.ended ≡ None → room_of l.self + length l.bytes ≤ room_of l.fn.self + length l.rest;
 }
 
