@@ -3,14 +3,20 @@
 //! The commands are a table, of which [`grammar`] makes what `clap` parses and prints as help, and [`write_completions`] what
 //! a shell reads. [`escaped`] is the error of words that are no command line, without their control characters.
 //!
-//! No function has a contract: what the words stand for is the program's.
+//! [`parse_set`], [`parse_number`] and their like are what a word stands for, and [`ArgumentFault`] why it is none. The first two have a
+//! contract.
 #![tactic(auto)]
 
+mod arguments;
 mod completions;
 mod help;
 mod mistake;
 mod table;
 
+pub use arguments::{
+    ArgumentFault, parse_encoding, parse_gtid, parse_number, parse_schema, parse_set, parse_table,
+    parse_tables, word,
+};
 pub use completions::write_completions;
 pub use help::write_help;
 pub use mistake::{escaped, input_again, no_command};

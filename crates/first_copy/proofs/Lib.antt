@@ -5,4 +5,5 @@ pub mod TablePlaces
 pub mod DefinedAt
 pub mod Collecting
 pub mod Supplying
+pub mod TextRows
 pub mod FaultsAfter

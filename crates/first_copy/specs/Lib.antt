@@ -7,4 +7,6 @@ pub mod DefinedTables
 pub mod CopyLines
 pub mod CopySteps
 pub mod Supplied
+pub mod LoadedText
 pub mod CopyFaults
+pub mod Heads

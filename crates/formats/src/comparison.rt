@@ -1,19 +1,20 @@
 //! Lines that are compared with those of a text, in any order.
 
+use crate::name::Shown;
 use std::alloc::{AllocError, Global};
 use std::io;
 use std::io::Write;
 
 /// The lines of a text, and how often each is left.
 #[derive(Drop)]
-pub struct TextLines<'t> {
+struct TextLines<'t> {
     /// The lines that are not the same, in the order of their bytes, and for each how often it is left.
     lines: Vec<(&'t [u8], u64)>,
 }
 
 impl<'t> TextLines<'t> {
     /// The lines of a text. The last one may lack its line feed.
-    pub fn of(alloc: Global, text: &'t [u8]) -> Result<TextLines<'t>, AllocError> {
+    fn of(alloc: Global, text: &'t [u8]) -> Result<TextLines<'t>, AllocError> {
         let mut all = split(alloc, text)?;
         all.sort_unstable();
         let mut lines = Vec::new(alloc);
@@ -70,14 +71,47 @@ fn split<'t>(alloc: Global, text: &'t [u8]) -> Result<Vec<&'t [u8]>, AllocError>
 #[derive(Clone, Copy)]
 pub struct Differences {
     /// Lines of the text alone.
-    pub of_text: u64,
+    of_text: u64,
     /// Lines that were written and that the text lacks.
-    pub of_written: u64,
+    of_written: u64,
+}
+
+impl Differences {
+    /// Whether each side has the lines of the other.
+    pub fn are_none(self) -> bool {
+        self.of_text == 0 && self.of_written == 0
+    }
+
+    /// Reports how many rows the text and the database of these names lack.
+    pub fn note<E: Write>(self, text: &str, db: &str, err: &mut E) {
+        let Differences {
+            of_text,
+            of_written,
+        } = self;
+        let _ = writeln!(
+            err,
+            "mrep: {of_text} rows of {} alone, {of_written} of {} alone",
+            Shown(text),
+            Shown(db)
+        );
+    }
+}
+
+/// Prints the lines that one text lacks of the other: those of the first one after `<`, those of the second after `>`.
+pub fn compare<W: Write>(
+    alloc: Global,
+    text: &[u8],
+    written: &[u8],
+    out: &mut W,
+) -> io::Result<Differences> {
+    let mut comparer = Comparer::new(alloc, TextLines::of(alloc, text)?, out);
+    comparer.write(written)?;
+    comparer.finish()
 }
 
 /// What lines are written to, to be compared with those of a text: it writes each that the text lacks, after `>`.
 #[derive(Drop)]
-pub struct Comparer<'t, 'o, W> {
+struct Comparer<'t, 'o, W> {
     expected: TextLines<'t>,
     line: Vec<u8>,
     out: &'o mut W,
@@ -86,7 +120,7 @@ pub struct Comparer<'t, 'o, W> {
 
 impl<'t, 'o, W: Write> Comparer<'t, 'o, W> {
     /// No line was written yet.
-    pub fn new(alloc: Global, expected: TextLines<'t>, out: &'o mut W) -> Comparer<'t, 'o, W> {
+    fn new(alloc: Global, expected: TextLines<'t>, out: &'o mut W) -> Comparer<'t, 'o, W> {
         Comparer {
             expected,
             line: Vec::new(alloc),
@@ -106,7 +140,7 @@ impl<'t, 'o, W: Write> Comparer<'t, 'o, W> {
     }
 
     /// Writes the lines that are left of the text, after `<`, and returns how many there are on each side.
-    pub fn finish(self) -> io::Result<Differences> {
+    fn finish(self) -> io::Result<Differences> {
         let Comparer {
             expected,
             out,

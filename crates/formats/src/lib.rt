@@ -29,7 +29,7 @@ mod type_text;
 
 pub use advice::{event_advice, greet_advice};
 pub use cells::write_row;
-pub use comparison::{Comparer, Differences, TextLines};
+pub use comparison::{Differences, compare};
 pub use csv_lines::Records;
 pub use details::{Details, SHOWN, row_of};
 pub use event_line::write_event;

@@ -50,18 +50,23 @@ pub fn format_of(word: Option<&str>) -> Format {
     }
 }
 
-/// The form of bytes of a word, which the command line has tested. Formats other than CSV and JSON have one form alone:
-/// `None` if another is asked for.
-pub fn encoding_of(word: Option<&str>, format: Format) -> Option<Encoding> {
-    let Some(word) = word else {
-        return Some(Encoding::Hex);
-    };
-    if !matches!(format, Format::Csv | Format::Json) {
-        return None;
+/// The form of bytes of a word, which the command line has tested. Formats other than CSV and JSON have one form alone, and
+/// where columns are described JSON alone has several, and base64 without a word: `None` if another is asked for.
+pub fn encoding_of(word: Option<&str>, format: Format, is_described: bool) -> Option<Encoding> {
+    match (word, format) {
+        (None, Format::Json) if is_described => Some(Encoding::Base64),
+        (None, _) => Some(Encoding::Hex),
+        (Some(_), Format::Csv) if is_described => None,
+        (Some(word), Format::Csv | Format::Json) => Some(encoding_named(word)),
+        _ => None,
     }
-    Some(match word {
+}
+
+/// The form of bytes of this name.
+fn encoding_named(word: &str) -> Encoding {
+    match word {
         "utf8" => Encoding::Utf8,
         "base64" => Encoding::Base64,
         _ => Encoding::Hex,
-    })
+    }
 }

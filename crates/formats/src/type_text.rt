@@ -29,6 +29,13 @@ struct Moment {
     fraction: u8,
 }
 
+/// The type of times of this name, with so many digits of a second's fraction.
+fn with_fraction(name: &'static str, fraction: u8) -> Moment
+    ensures { (result.name.now ≡ name.now) × (result.fraction ≡ fraction) }
+{
+    Moment { name, fraction }
+}
+
 impl fmt::Display for Moment {
     ghost output = { λ moment. Some (fractional_text moment.name.now moment.fraction) };
 
@@ -67,27 +74,14 @@ impl fmt::Display for TypeText {
             ColumnKind::Timestamp2 { fraction } => write!(
                 f,
                 "{}",
-                Moment {
-                    name: "TIMESTAMP",
-                    fraction
-                }
+                with_fraction("TIMESTAMP", fraction)
             ),
             ColumnKind::Datetime2 { fraction } => write!(
                 f,
                 "{}",
-                Moment {
-                    name: "DATETIME",
-                    fraction
-                }
+                with_fraction("DATETIME", fraction)
             ),
-            ColumnKind::Time2 { fraction } => write!(
-                f,
-                "{}",
-                Moment {
-                    name: "TIME",
-                    fraction
-                }
-            ),
+            ColumnKind::Time2 { fraction } => write!(f, "{}", with_fraction("TIME", fraction)),
             ColumnKind::Char { maximum } => write!(f, "CHAR({maximum})"),
             ColumnKind::Enum { .. } => f.write_str("ENUM"),
             ColumnKind::Set { .. } => f.write_str("SET"),

@@ -6,6 +6,8 @@ use Rattle.std.specs.declared.io.ErrorKind.TheVariants as io_kind
 use Rattle.clap.specs.Words.{kind_of}
 use Rattle.clap.specs.declared.error.ErrorKind.TheVariants as clap_kind
 use Rattle.mrep.specs.declared.report.failure.Failure.{Failure}
+use Rattle.command_line.specs.declared.arguments.ArgumentFault.{ArgumentFault}
+use Rattle.command_line.specs.declared.arguments.ArgumentFault.TheVariants as argument
 use Rattle.columns.specs.declared.fields.LineFault.{LineFault}
 use Rattle.columns.specs.declared.fields.LineFault.TheVariants.{Memory as OutOfMemory}
 use Rattle.typed_rows.specs.declared.tables.TablesFault.{TablesFault}
@@ -17,7 +19,7 @@ use Rattle.replica.specs.declared.loading.Unloadable.{Unloadable as Refusal}
 use Rattle.replica.specs.declared.loading.Unloadable.TheVariants.{Failed}
 use Rattle.store.specs.declared.fault.StoreFault.{StoreFault}
 use Rattle.store.specs.declared.fault.StoreFault.TheVariants as store
-use Rattle.mrep.specs.declared.report.failure.Failure.TheVariants.{Words, Set, Gtid, Table, Schema, Number, Bytes, Columns, Description, Tables, Copy, Unloadable, Misfit, User, File, Host, Database, Damaged, Unusable, Output, Memory}
+use Rattle.mrep.specs.declared.report.failure.Failure.TheVariants.{Words, Argument, Description, Tables, Copy, Unloadable, Misfit, User, File, Host, Database, Damaged, Unusable, Output, Memory}
 
 -- 4 if memory ran out, otherwise 3
 abbrev pub IsFileStatus : Error → ℕ → Type 0
@@ -33,6 +35,11 @@ database_status store.Damaged = 3
 database_status (store.Layout n) = 3
 database_status store.Broken = 3
 database_status store.Follows = 3
+
+-- 4 if memory ran out, otherwise 2: a text that is not a set, a GTID, a table, a schema or a number, and an option that lacks another
+abbrev pub argument_status : ArgumentFault → ℕ
+argument_status argument.Memory = 4
+argument_status _ = 2
 
 -- 4 if memory ran out, otherwise 2
 abbrev pub description_status : LineFault → ℕ
@@ -56,17 +63,11 @@ abbrev pub unloadable_status : Refusal → ℕ
 unloadable_status (Failed cause) = database_status cause
 unloadable_status _ = 1
 
--- 1 for a row that does not fit the description, for a file that is no copy, and for a copy that may not be loaded; 2 for a mistake in the arguments, such as a text that is not a set, a
--- GTID, a table, a number or a user name, and for a file that is no description or of which no tables are made; 3 for a file, a host, a database or the output; 4 if memory ran out
+-- 1 for a row that does not fit the description, for a file that is no copy, and for a copy that may not be loaded; 2 for a mistake in the arguments, such as a text that is not a set or
+-- a user name, and for a file that is no description or of which no tables are made; 3 for a file, a host, a database or the output; 4 if memory ran out
 abbrev pub IsStatus : Failure → ℕ → Type 0
 IsStatus (Words error) status = (kind_of error ≡ clap_kind.OutOfMemory → status ≡ 4) × (kind_of error ≢ clap_kind.OutOfMemory → status ≡ 2)
-IsStatus (Set word cause) status = status ≡ 2
-IsStatus (Gtid word) status = status ≡ 2
-IsStatus (Table word) status = status ≡ 2
-IsStatus (Schema word) status = status ≡ 2
-IsStatus (Number word largest) status = status ≡ 2
-IsStatus Bytes status = status ≡ 2
-IsStatus Columns status = status ≡ 2
+IsStatus (Argument fault) status = status ≡ argument_status fault
 IsStatus (Description name fault) status = status ≡ description_status fault.fault
 IsStatus (Tables name fault) status = status ≡ tables_status fault
 IsStatus (Misfit name misfit) status = status ≡ 1

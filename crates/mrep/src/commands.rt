@@ -14,7 +14,6 @@ pub mod replay;
 pub mod select;
 pub mod verify;
 
-use crate::arguments::{tables, word};
 use crate::commands::clear::clear;
 use crate::commands::copy::copy;
 use crate::commands::export::export;
@@ -28,7 +27,9 @@ use crate::commands::select::select;
 use crate::commands::verify::verify;
 use crate::report::failure::{DONE, Failure, MEMORY};
 use clap::{ArgMatches, Command};
-use command_line::{escaped, grammar, input_again, no_command, write_completions, write_help};
+use command_line::{
+    escaped, grammar, input_again, no_command, parse_tables, word, write_completions, write_help,
+};
 use files::INPUT;
 use formats::note_patterns;
 use payloads::Lines;
@@ -159,7 +160,7 @@ fn run_named<'a, W: Write, E: Write>(
             DONE
         }
         "columns" => {
-            let only = tables(rt.alloc(), given.get_strs("only").unwrap_or(&[]))?;
+            let only = parse_tables(rt.alloc(), given.get_strs("only").unwrap_or(&[]))?;
             write_query(&only, out)?;
             DONE
         }

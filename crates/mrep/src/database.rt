@@ -6,4 +6,3 @@ pub mod exporter;
 pub mod job;
 pub mod open;
 pub mod printer;
-pub mod skip_feed;

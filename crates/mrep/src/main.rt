@@ -4,7 +4,6 @@
 //! the process.
 #![tactic(auto)]
 
-mod arguments;
 mod commands;
 mod database;
 mod forge;

@@ -3,4 +3,3 @@
 pub mod failure;
 pub mod status;
 pub mod wanted;
-pub mod watch;

@@ -1,15 +1,24 @@
 //! What is reported of connections: how each has ended and why, and how far the reading has come.
 //!
 //! [`write_end`] is the line of an end, [`write_cause`] and [`write_advice`] what stands on standard error beside it;
-//! [`Pulse`] is lines of progress and the status, and [`Socket`] a connection that reports them while nothing comes.
+//! [`write_unloadable`] says why a first copy may not be loaded. [`Pulse`] is lines of progress and the status, [`Metered`] a reader
+//! that reports them, and [`Socket`] a connection that reports them while nothing comes. [`Watch`] is the observer of a command:
+//! it writes all of these and the change feed.
 //!
-//! No function has a contract but that a read stays within its buffer: what the lines say is tested.
+//! No function has a contract but that a read stays within its buffer, and that a command stops once something could not be
+//! written: what the lines say is tested.
 #![tactic(auto)]
 
+mod metered;
 mod pulse;
 mod reason;
 mod socket;
+mod unloadable;
+mod watch;
 
+pub use metered::Metered;
 pub use pulse::Pulse;
 pub use reason::{Halt, can_skip, write_advice, write_cause, write_end, write_reason};
 pub use socket::Socket;
+pub use unloadable::write_unloadable;
+pub use watch::{Reports, Source, Stop, Watch};

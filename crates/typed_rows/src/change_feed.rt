@@ -1,7 +1,7 @@
 //! The change feed: each transaction as JSON lines.
 //!
-//! The changes of a transaction are written before they are committed, and to a file they are synced, so none is missing
-//! that the database has. After the commit a line says so. A feed begins with the executed set of the database, which says
+//! The changes of a transaction are written before they are committed. What is written to a file is synced, but for the line of
+//! a commit: so no change is missing that the database has. After the commit a line says so. A feed begins with the executed set of the database, which says
 //! of the last transaction of an earlier run whether it was committed.
 
 use crate::described_tables::DescribedTables;
@@ -155,7 +155,7 @@ fn write_to_output<O: Write>(
     Ok(())
 }
 
-/// Writes an entry to a file; the changes of a transaction are synced.
+/// Writes an entry to a file, and syncs it unless it says that a transaction was committed, or is nothing.
 fn write_to_file(form: Form<'_>, entry: FeedEntry<'_>, file: &FeedFile) -> Result<(), RowError> {
     let mut writer = BufWriter::new(form.alloc, file.append())?;
     let flushed = match write_entry(form, entry, &mut writer) {
@@ -166,9 +166,9 @@ fn write_to_file(form: Form<'_>, entry: FeedEntry<'_>, file: &FeedFile) -> Resul
     let _ = writer.into_parts();
     flushed?;
     match entry {
-        FeedEntry::Changes(delivery) if !delivery.changes.is_empty() => file.sync()?,
-        FeedEntry::Skipped(_) => file.sync()?,
-        _ => {}
+        FeedEntry::Changes(delivery) if delivery.changes.is_empty() => {}
+        FeedEntry::Committed(_) => {}
+        _ => file.sync()?,
     }
     Ok(())
 }

@@ -17,7 +17,7 @@ And that a word of `specs/` is defined in one file alone, so that it means one t
 import glob, os, re, sys
 
 root = os.path.abspath(sys.argv[1])
-CRATES = ['wire', 'greet', 'gtid', 'binlog', 'gather', 'columns', 'store', 'scripted_source', 'replica', 'first_copy', 'files', 'formats', 'command_line', 'mrep']
+CRATES = ['wire', 'greet', 'gtid', 'binlog', 'gather', 'columns', 'store', 'scripted_source', 'replica', 'first_copy', 'files', 'formats', 'payloads', 'metrics', 'typed_rows', 'command_line', 'reports', 'mrep']
 TOP = ('crates/', 'docs/', 'tests/', 'bench/', 'samples/', 'specs/', 'src/', 'proofs/', 'must-fail/', '.ci/')
 bad = []
 

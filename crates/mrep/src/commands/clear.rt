@@ -2,14 +2,16 @@
 
 ghost use Rattle.std.specs.Prelude.{◌≤◌, IfOk};
 
-use crate::arguments::{table, word};
-use crate::database::open::{clear_in, closed};
+use crate::database::open::{closed, opened, opening};
 use crate::report::failure::{DONE, Failure, MEMORY, write_failure};
 use crate::report::wanted::Wanted;
-use crate::report::watch::{Source, Watch};
 use clap::ArgMatches;
+use command_line::{parse_gtid, parse_table, word};
 use gtid::Gtid;
-use replica::{ClearEnd, ClearedFile, Reason};
+use replica::{ClearEnd, ClearedFile, Observer, Reason, clear_file};
+use reports::Watch;
+use sqlite::File;
+use sqlite_disk::Unknown;
 use std::io::Write;
 use store::StoreFault;
 
@@ -22,15 +24,12 @@ pub fn clear<'a, W: Write, E: Write>(
 ) -> Result<u8, Failure<'a>>
     ensures { IfOk result (λ status. status ≤ MEMORY) }
 {
-    let Some(gtid) = Gtid::parse(word(given, "gtid")) else {
-        return Err(Failure::Gtid { word: "--gtid" });
-    };
-    let (schema, name) = table(rt.alloc(), word(given, "SCHEMA.TABLE"))?;
+    let gtid = parse_gtid("--gtid", word(given, "gtid"))?;
+    let (schema, name) = parse_table(rt.alloc(), word(given, "SCHEMA.TABLE"))?;
     let wanted = Wanted::of(given)?;
     let reports = wanted.reports(rt, None, &[], err)?;
     let goes_to_err = wanted.feeds_output();
-    let source = Source::of(rt, &[], 0, &wanted);
-    let mut watch = Watch::new(source, reports, out, err);
+    let mut watch = Watch::new(wanted.source(rt, &[], 0), reports, out, err);
     let done = match clear_in(rt, wanted.db, &schema, &name, gtid, &mut watch) {
         Ok(done) => done,
         Err(failure) => {
@@ -55,6 +54,20 @@ pub fn clear<'a, W: Write, E: Write>(
         print(rows, out)?;
     }
     Ok(DONE)
+}
+
+/// Takes all rows of a table out of the database in a file, which is opened with its own filter.
+fn clear_in<'a, W: Observer>(
+    rt: &HostRuntime,
+    db: &'a str,
+    schema: &[u8],
+    table: &[u8],
+    gtid: Gtid,
+    observer: &mut W,
+) -> Result<ClearedFile<File>, Failure<'a>> {
+    let opening = opening(rt, db)?;
+    let done = clear_file(rt, db, Unknown, schema, table, gtid, observer);
+    opened(rt, db, opening, done)
 }
 
 /// How many rows went; none where the GTID was executed.

@@ -6,13 +6,13 @@
 
 ghost use Rattle.std.specs.Prelude.{◌≡◌, IfOk};
 
-use crate::arguments::word;
 use crate::commands::export::fill_tables;
-use crate::database::exporter::Wanted;
 use crate::database::open::{lock, test};
 use crate::report::failure::{DONE, Failure, over_file};
 use clap::ArgMatches;
+use command_line::word;
 use files::{Names, Part, is_there, keep_one_name, lock_alone, make_part};
+use typed_rows::Export;
 
 const TOO_FAST: &str = "no whole copy could be made, since its WAL file was begun anew each time";
 
@@ -52,7 +52,7 @@ pub fn copy<'a>(rt: &HostRuntime, given: &ArgMatches<'a>) -> Result<u8, Failure<
 pub fn make_file<'a>(
     rt: &HostRuntime,
     target: Target<'a>,
-    wanted: Option<Wanted>,
+    export: Option<Export>,
 ) -> Result<Vec<u8>, Failure<'a>> {
     let Target { db, to, force } = target;
     let from = over_file(db, Names::of(rt, db))?;
@@ -62,9 +62,9 @@ pub fn make_file<'a>(
     // What comes to have the name from now on is not replaced: it is not locked.
     let replaces = force && is_there(rt, to).unwrap_or(false);
     if replaces {
-        replace(rt, target, &from, wanted)
+        replace(rt, target, &from, export)
     } else {
-        make_beside(rt, target, &from, false, wanted)
+        make_beside(rt, target, &from, false, export)
     }
 }
 
@@ -73,11 +73,11 @@ fn replace<'a>(
     rt: &HostRuntime,
     target: Target<'a>,
     from: &Names,
-    wanted: Option<Wanted>,
+    export: Option<Export>,
 ) -> Result<Vec<u8>, Failure<'a>> {
     let name_lock = over_file(target.to, lock_alone(rt, target.to))?;
     let replaced = lock(rt, target.to)?;
-    let made = make_beside(rt, target, from, true, wanted);
+    let made = make_beside(rt, target, from, true, export);
     drop(replaced);
     drop(name_lock);
     made
@@ -89,12 +89,12 @@ fn make_beside<'a>(
     target: Target<'a>,
     from: &Names,
     replaces: bool,
-    wanted: Option<Wanted>,
+    export: Option<Export>,
 ) -> Result<Vec<u8>, Failure<'a>> {
     let Target { to, force, .. } = target;
     let part = over_file(to, make_part(rt, from, to))?;
     let made = match over_file(to, from.check_target(rt, to, force)) {
-        Ok(()) => make(rt, target, from, &part, replaces, wanted),
+        Ok(()) => make(rt, target, from, &part, replaces, export),
         Err(failure) => Err(failure),
     };
     part.remove(rt, made.is_ok());
@@ -108,11 +108,11 @@ fn make<'a>(
     from: &Names,
     part: &Part,
     replaces: bool,
-    wanted: Option<Wanted>,
+    export: Option<Export>,
 ) -> Result<Vec<u8>, Failure<'a>> {
     let Target { db, to, .. } = target;
-    let notes = match wanted {
-        Some(wanted) => fill_tables(rt, target, from, part, wanted)?,
+    let notes = match export {
+        Some(export) => fill_tables(rt, target, from, part, export)?,
         None => {
             fill(rt, target, from, part)?;
             test(rt, part.names.file.as_str(), to, db)?;

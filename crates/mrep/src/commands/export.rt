@@ -5,18 +5,17 @@
 
 ghost use Rattle.std.specs.Prelude.{◌≡◌, IfOk};
 
-use crate::arguments::{schema, tables, word};
 use crate::commands::copy::{Target, fill, make_file};
 use crate::database::description::read_description;
-use crate::database::exporter::Wanted;
 use crate::database::open::export_from;
 use crate::report::failure::{DONE, Failure, over_file};
 use clap::ArgMatches;
+use command_line::{parse_schema, parse_tables, word};
 use files::{FileFault, Names, Part, lead_to_one, make_part};
 use formats::Chosen;
 use std::io;
 use std::io::Write;
-use typed_rows::Tables;
+use typed_rows::{Export, Tables};
 
 const DESCRIPTION: &str = "it is the description of the columns";
 
@@ -40,8 +39,8 @@ pub fn export<'a, E: Write>(
             why: DESCRIPTION,
         });
     }
-    let wanted = wanted(rt, given, name)?;
-    let notes = make_file(rt, target, Some(wanted))?;
+    let export = wanted(rt, given, name)?;
+    let notes = make_file(rt, target, Some(export))?;
     let _ = err.write_all(&notes);
     Ok(DONE)
 }
@@ -51,16 +50,16 @@ fn wanted<'a>(
     rt: &HostRuntime,
     given: &ArgMatches<'a>,
     name: &'a str,
-) -> Result<Wanted, Failure<'a>> {
+) -> Result<Export, Failure<'a>> {
     let alloc = rt.alloc();
-    let only = tables(alloc, given.get_strs("only").unwrap_or(&[]))?;
+    let only = parse_tables(alloc, given.get_strs("only").unwrap_or(&[]))?;
     let bare = match given.get_str("schema") {
-        Some(word) => Some(schema(alloc, word)?),
+        Some(word) => Some(parse_schema(alloc, word)?),
         None => None,
     };
     let described = read_description(rt, name)?;
     match Tables::new(alloc, described, &only, bare.as_deref()) {
-        Ok(tables) => Ok(Wanted {
+        Ok(tables) => Ok(Export {
             tables,
             chosen: Chosen::new(alloc, only)?,
         }),
@@ -75,7 +74,7 @@ pub fn fill_tables<'a>(
     target: Target<'a>,
     from: &Names,
     part: &Part,
-    wanted: Wanted,
+    export: Export,
 ) -> Result<Vec<u8>, Failure<'a>> {
     let to = target.to;
     let rows = format!(in rt.alloc(); "{to}.rows")?;
@@ -88,7 +87,7 @@ pub fn fill_tables<'a>(
         }
         made => over_file(to, made)?,
     };
-    let done = fill_from(rt, target, from, part, &source, wanted);
+    let done = fill_from(rt, target, from, part, &source, export);
     source.remove(rt, false);
     done
 }
@@ -100,12 +99,12 @@ fn fill_from<'a>(
     from: &Names,
     part: &Part,
     source: &Part,
-    wanted: Wanted,
+    export: Export,
 ) -> Result<Vec<u8>, Failure<'a>> {
     fill(rt, target, from, source)?;
     let Target { db, to, .. } = target;
     let (copy, made) = (source.names.file.as_str(), part.names.file.as_str());
-    let notes = export_from(rt, copy, made, to, db, wanted)?;
+    let notes = export_from(rt, copy, made, to, db, export)?;
     match finish(part, source) {
         Ok(()) => Ok(notes),
         Err(cause) => Err(Failure::File { name: to, cause }),

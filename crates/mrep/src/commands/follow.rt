@@ -2,19 +2,19 @@
 
 ghost use Rattle.std.specs.Prelude.{◌≤◌, IfOk};
 
-use crate::arguments::{number, word};
-use crate::database::open::{closed, follow_into};
+use crate::database::open::{closed, opened, opening};
 use crate::report::failure::{Failure, MEMORY, over_file, write_failure};
 use crate::report::status::{counted, status_after};
 use crate::report::wanted::{Wanted, waited};
-use crate::report::watch::{Source, Watch};
 use binlog::Follow;
 use clap::ArgMatches;
+use command_line::{parse_number, word};
 use files::{others_may_read, read_password};
 use formats::Shown;
 use gtid::GtidSet;
-use replica::{Config, ConfigFault, Ended, FollowedFile, Observer, Until};
-use reports::{Pulse, Socket};
+use replica::{Config, ConfigFault, Ended, FollowedFile, Observer, Until, follow_file};
+use reports::{Pulse, Socket, Watch};
+use sqlite_disk::Unknown;
 use std::alloc::AllocError;
 use std::io;
 use std::io::{ErrorKind, Write};
@@ -36,7 +36,7 @@ pub fn follow<'a, W: Write, E: Write>(
     ensures { IfOk result (λ status. status ≤ MEMORY) }
 {
     let wanted = Wanted::of(given)?;
-    let port = number(word(given, "port"), 65_535)? as u16;
+    let port = parse_number(word(given, "port"), 65_535)? as u16;
     let until = wanted.until(rt.alloc())?;
     let following = Following::of(rt, given, &wanted)?;
     let (name, password_file) = (word(given, "host"), word(given, "password-file"));
@@ -44,8 +44,7 @@ pub fn follow<'a, W: Write, E: Write>(
     let reports = wanted.reports(rt, None, &[password_file], err)?;
     let host = Host::new(rt, name, port, &reports.pulse)?;
     let streams = [name];
-    let source = Source::of(rt, &streams, port, &wanted);
-    let watch = Watch::new(source, reports, out, err);
+    let watch = Watch::new(wanted.source(rt, &streams, port), reports, out, err);
     let (followed, watch) = follow_until(host, wanted.db, following, until, watch);
     let (end, done) = match followed {
         Ok(followed) => concluded(&wanted, followed, watch),
@@ -124,7 +123,7 @@ impl Following {
         given: &ArgMatches<'a>,
         wanted: &Wanted<'_, 'a>,
     ) -> Result<Following, Failure<'a>> {
-        let server_id = number(word(given, "server-id"), u32::MAX)?;
+        let server_id = parse_number(word(given, "server-id"), u32::MAX)?;
         let only = wanted.filter(rt.alloc())?;
         let config = settings(rt, given, server_id)?;
         Ok(Following { only, config })
@@ -222,17 +221,13 @@ fn follow_over<'a, W: Observer>(
 ) -> Result<Followed<'a>, Failure<'a>> {
     let rt = host.rt;
     let Following { only, config } = following;
+    let opening = opening(rt, db)?;
+    let connect = move || host.connect();
+    let done = follow_file(rt, db, Unknown, only.as_ref(), config, connect, observer);
     let FollowedFile {
         connection,
         closed: files,
-    } = follow_into(
-        rt,
-        db,
-        only.as_ref(),
-        config,
-        move || host.connect(),
-        observer,
-    )?;
+    } = opened(rt, db, opening, done)?;
     let connection = match connection {
         Ok((end, stream)) => Ok((end, stream.failure())),
         Err(cause) => Err(cause),

@@ -2,18 +2,17 @@
 
 ghost use Rattle.std.specs.Prelude.{◌≡◌, IfOk};
 
-use crate::arguments::{gtid_set, tables, word};
-use crate::database::description::{encoding_with, read_tables};
+use crate::database::description::read_tables;
 use crate::database::job::Job;
 use crate::database::open::work_on;
 use crate::database::printer::Selection;
-use crate::database::skip_feed::SkipFeed;
 use crate::report::failure::{DONE, Failure};
 use clap::ArgMatches;
+use command_line::{ArgumentFault, parse_encoding, parse_gtid, parse_set, parse_tables, word};
 use files::has_bytes;
 use formats::{Chosen, format_of, note_made};
-use gtid::Gtid;
 use std::io::Write;
+use typed_rows::SkipFeed;
 
 /// The job of the command of this name, if it is one over a store.
 pub fn job_of<'a>(
@@ -23,15 +22,12 @@ pub fn job_of<'a>(
 ) -> Result<Option<Job<'a>>, Failure<'a>> {
     let alloc = rt.alloc();
     let job = match name {
-        "show" => Job::Show(selection(rt, given)?),
+        "show" => show(rt, given)?,
         "tables" => Job::Tables,
         "gtids" => Job::Executed,
-        "missing" => Job::Missing(gtid_set(alloc, "SET", word(given, "SET"))?),
-        "adopt" => Job::Adopt(gtid_set(alloc, "SET", word(given, "SET"))?),
-        "skip" => match Gtid::parse(word(given, "G")) {
-            Some(gtid) => Job::Skip(gtid, skip_feed(rt, given)),
-            None => return Err(Failure::Gtid { word: "G" }),
-        },
+        "missing" => Job::Missing(parse_set(alloc, "SET", word(given, "SET"))?),
+        "adopt" => Job::Adopt(parse_set(alloc, "SET", word(given, "SET"))?),
+        "skip" => Job::Skip(parse_gtid("G", word(given, "G"))?, skip_feed(rt, given)),
         _ => return Ok(None),
     };
     Ok(Some(job))
@@ -47,25 +43,25 @@ fn skip_feed<'a>(rt: &'a HostRuntime, given: &ArgMatches<'a>) -> Option<SkipFeed
     })
 }
 
-/// Which rows `mrep show` prints, and how.
-fn selection<'a>(rt: &HostRuntime, given: &ArgMatches<'a>) -> Result<Selection, Failure<'a>> {
+/// The job of `mrep show`: which rows are printed, and how.
+fn show<'a>(rt: &HostRuntime, given: &ArgMatches<'a>) -> Result<Job<'a>, Failure<'a>> {
     let format = format_of(given.get_str("format"));
     let described = given.get_str("columns");
     if described.is_none() && format.needs_columns() {
-        return Err(Failure::Columns);
+        return Err(ArgumentFault::Columns.into());
     }
-    let encoding = encoding_with(given.get_str("bytes"), format, described.is_some())?;
-    let only = tables(rt.alloc(), given.get_strs("only").unwrap_or(&[]))?;
+    let encoding = parse_encoding(given.get_str("bytes"), format, described.is_some())?;
+    let only = parse_tables(rt.alloc(), given.get_strs("only").unwrap_or(&[]))?;
     let described = match described {
         Some(name) => Some(read_tables(rt, name)?),
         None => None,
     };
-    Ok(Selection {
+    let selection = Selection {
         chosen: Chosen::new(rt.alloc(), only)?,
         format,
         encoding,
-        described,
-    })
+    };
+    Ok(Job::Show(selection, described))
 }
 
 /// Does a job with the store in a database file, and prints what comes of it. Reports if a job that only reads has made the

@@ -2,18 +2,22 @@
 
 ghost use Rattle.std.specs.Prelude.{◌≤◌, IfOk};
 
-use crate::arguments::word;
 use crate::commands::clear::failure_of;
-use crate::database::copied_rows::Summary;
-use crate::database::open::{closed, load_into};
+use crate::database::copied_rows::CopyFile;
+use crate::database::open::{closed, opened, opening};
 use crate::report::failure::{DONE, Failure, MEMORY, write_failure};
 use crate::report::wanted::Wanted;
-use crate::report::watch::{Source, Watch};
 use clap::ArgMatches;
-use first_copy::RowsFault;
+use command_line::word;
+use first_copy::{RowsFault, Summary};
 use formats::Shown;
-use replica::{ChangeEnd, Ended, LoadEnd, LoadedFile, Reason, Unloadable};
-use reports::Pulse;
+use replica::{
+    ChangeEnd, Deliveries, Ended, FirstCopy, LoadEnd, LoadedFile, Observer, Reason, Unloadable,
+    load_file,
+};
+use reports::{Pulse, Watch};
+use sqlite::File;
+use sqlite_disk::Unknown;
 use std::io::Write;
 
 const CHANGED: &str =
@@ -30,13 +34,16 @@ pub fn load<'a, W: Write, E: Write>(
     ensures { IfOk result (λ status. status ≤ MEMORY) }
 {
     let wanted = Wanted::of(given)?;
-    let (name, columns) = (word(given, "COPY"), word(given, "columns"));
-    let summary = Summary::of(rt, name, columns)?;
-    load_summary(rt, wanted, name, columns, &summary, out, err)?;
+    let file = CopyFile {
+        name: word(given, "COPY"),
+        columns: word(given, "columns"),
+    };
+    let (summary, size) = file.summary(rt)?;
+    load_summary(rt, wanted, file, &summary, size, out, err)?;
     let printed = if wanted.feeds_output() {
-        summary.counts.print(err)
+        summary.print(err)
     } else {
-        summary.counts.print(out)
+        summary.print(out)
     };
     printed?;
     Ok(DONE)
@@ -46,16 +53,17 @@ pub fn load<'a, W: Write, E: Write>(
 fn load_summary<'a, W: Write, E: Write>(
     rt: &HostRuntime,
     wanted: Wanted<'_, 'a>,
-    name: &'a str,
-    columns: &'a str,
+    file: CopyFile<'a>,
     summary: &Summary,
+    size: u64,
     out: &mut W,
     err: &mut E,
 ) -> Result<(), Failure<'a>> {
-    let reports = wanted.reports(rt, Some(summary.size), &[name], err)?;
+    let name = file.name;
+    let reports = wanted.reports(rt, Some(size), &[name], err)?;
     let pulse = reports.pulse.clone()?;
-    let rows = summary.rows(rt, name, columns, reports.pulse.clone()?)?;
-    let mut watch = Watch::new(Source::of(rt, &[], 0, &wanted), reports, out, err);
+    let rows = file.rows(rt, summary, reports.pulse.clone()?)?;
+    let mut watch = Watch::new(wanted.source(rt, &[], 0), reports, out, err);
     let done = match load_into(rt, wanted.db, summary.copy(), rows, &mut watch) {
         Ok(done) => done,
         Err(failure) => {
@@ -69,7 +77,7 @@ fn load_summary<'a, W: Write, E: Write>(
         end,
         closed: files,
     } = done;
-    report_end(rt, &pulse, summary.size, applied, err);
+    report_end(rt, &pulse, size, applied, err);
     let files = closed(wanted.db, files);
     let loaded = outcome(wanted.db, name, end).and(stopped);
     if loaded.is_err() {
@@ -80,6 +88,19 @@ fn load_summary<'a, W: Write, E: Write>(
         let _ = writeln!(err, "mrep: {}: none of its rows is new", Shown(name));
     }
     files
+}
+
+/// Loads a copy into the database in a file, which is opened with its own filter.
+fn load_into<'a, I: Deliveries + Drop, W: Observer>(
+    rt: &HostRuntime,
+    db: &'a str,
+    copy: FirstCopy<'_>,
+    rows: I,
+    observer: &mut W,
+) -> Result<LoadedFile<I::Error, File>, Failure<'a>> {
+    let opening = opening(rt, db)?;
+    let done = load_file(rt, db, Unknown, None, copy, rows, observer);
+    opened(rt, db, opening, done)
 }
 
 /// Reports that a copy of so many bytes is done with, and how many of its transactions were applied.

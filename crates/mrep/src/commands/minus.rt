@@ -5,9 +5,9 @@ ghost use Rattle.std.specs.FinSet as set;
 ghost use Rattle.gtid.specs.Identifier.{Ids};
 ghost use Rattle.gtid.specs.Text.{IsRead, AppendsText};
 
-use crate::arguments::{gtid_set, word};
 use crate::report::failure::{DONE, Failure};
 use clap::ArgMatches;
+use command_line::{parse_set, word};
 use formats::text_of;
 use std::alloc::Global;
 use std::io::Write;
@@ -30,8 +30,8 @@ fn difference<'a>(alloc: Global, left: &str, right: &str) -> Result<String, Fail
     ensures { IfOk result (λ text. (x y : Ids) → IsRead left.now x → IsRead right.now y
         → AppendsText (set.difference x y) [] (string_bytes text)) }
 {
-    let mut kept = gtid_set(alloc, "X", left)?;
-    let taken = gtid_set(alloc, "Y", right)?;
+    let mut kept = parse_set(alloc, "X", left)?;
+    let taken = parse_set(alloc, "Y", right)?;
     let Ok(()) = kept.subtract(&taken) else {
         return Err(Failure::Memory);
     };

@@ -2,17 +2,18 @@
 
 ghost use Rattle.std.specs.Prelude.{◌≤◌, IfOk};
 
-use crate::database::open::{closed, replay_into};
+use crate::database::open::{closed, opened, opening};
 use crate::report::failure::{Failure, MEMORY, write_failure};
 use crate::report::status::{counted, status_after};
 use crate::report::wanted::{Wanted, waited};
-use crate::report::watch::{Source, Watch};
 use binlog::Follow;
 use clap::ArgMatches;
 use files::Input;
 use gtid::GtidSet;
 use replica::{Capture, Config, Halt, Observer, Replayed, Until, read_some};
+use reports::Watch;
 use sqlite::File;
+use sqlite_disk::Unknown;
 use std::io;
 use std::io::Write;
 use wire::LARGEST_PAYLOAD;
@@ -49,8 +50,7 @@ fn replay_streams<'a, W: Write, E: Write>(
     let reports = wanted.reports(rt, reading.total, names, err)?;
     let mut streams = Vec::with_capacity(rt.alloc(), names.len())?;
     streams.extend_from_slice(names)?;
-    let source = Source::of(rt, &streams, 0, &wanted);
-    let watch = Watch::new(source, reports, out, err);
+    let watch = Watch::new(wanted.source(rt, &streams, 0), reports, out, err);
     let (done, mut watch) = reading.replay_until(rt, wanted.db, until, watch);
     let (done, waited) = match done {
         Ok(done) => done,
@@ -120,7 +120,9 @@ impl Reading {
             captures,
             ..
         } = self;
-        replay_into(rt, db, only.as_ref(), &config, captures, observer)
+        let opening = opening(rt, db)?;
+        let done = replica::replay(rt, db, Unknown, only.as_ref(), &config, captures, observer);
+        opened(rt, db, opening, done)
     }
 
     /// Reads the streams, until all of a set is executed if there is one, and gives the observer back. Says whether there was

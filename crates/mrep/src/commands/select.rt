@@ -2,10 +2,10 @@
 
 ghost use Rattle.std.specs.Prelude.{◌≡◌, IfOk};
 
-use crate::arguments::{tables, word};
 use crate::database::description::read_tables;
 use crate::report::failure::{DONE, Failure};
 use clap::ArgMatches;
+use command_line::{parse_tables, word};
 use std::io::Write;
 use typed_rows::write_select;
 
@@ -19,7 +19,7 @@ pub fn select<'a, W: Write>(
 {
     let alloc = rt.alloc();
     let name = word(given, "columns");
-    let only = tables(alloc, given.get_strs("only").unwrap_or(&[]))?;
+    let only = parse_tables(alloc, given.get_strs("only").unwrap_or(&[]))?;
     let mut described = read_tables(rt, name)?;
     if let Err(fault) = described.check(alloc, &only) {
         return Err(Failure::Tables { name, fault });

@@ -2,7 +2,6 @@
 
 ghost use Rattle.std.specs.Prelude.{◌≤◌, IfOk};
 
-use crate::arguments::{tables, word};
 use crate::commands::jobs::run_job;
 use crate::database::description::read_tables;
 use crate::database::job::Job;
@@ -10,8 +9,9 @@ use crate::database::printer::Selection;
 use crate::report::failure::{DONE, Failure, MEMORY, REFUSED};
 use binlog::Follow;
 use clap::ArgMatches;
+use command_line::{parse_tables, word};
 use files::Input;
-use formats::{Chosen, Comparer, Differences, Encoding, Format, Shown, TextLines};
+use formats::{Chosen, Encoding, Format, compare};
 use std::alloc::Global;
 use std::io::{Read, Write};
 use typed_rows::DescribedTables;
@@ -27,7 +27,7 @@ pub fn verify<'a, W: Write, E: Write>(
     ensures { IfOk result (λ status. status ≤ MEMORY) }
 {
     let (db, file) = (word(given, "db"), word(given, "ROWS"));
-    let only = tables(rt.alloc(), &[word(given, "SCHEMA.TABLE")])?;
+    let only = parse_tables(rt.alloc(), &[word(given, "SCHEMA.TABLE")])?;
     let name = word(given, "columns");
     let described = read_tables(rt, name)?;
     if let Err(fault) = described.check(rt.alloc(), &only) {
@@ -37,21 +37,12 @@ pub fn verify<'a, W: Write, E: Write>(
     let job = show_all(rt.alloc(), only, described)?;
     let mut printed = Vec::new(rt.alloc());
     run_job(rt, db, job, &mut printed, err)?;
-    let differences = compare(rt.alloc(), &text, &printed, out)?;
-    Ok(reported(differences, file, db, err))
-}
-
-/// Prints the lines that one text lacks, and returns how many there are.
-fn compare<'a, W: Write>(
-    alloc: Global,
-    text: &[u8],
-    printed: &[u8],
-    out: &mut W,
-) -> Result<Differences, Failure<'a>> {
-    let mut comparer = Comparer::new(alloc, TextLines::of(alloc, text)?, out);
-    comparer.write(printed)?;
-    let differences = comparer.finish()?;
-    Ok(differences)
+    let found = compare(rt.alloc(), &text, &printed, out)?;
+    if found.are_none() {
+        return Ok(DONE);
+    }
+    found.note(file, db, err);
+    Ok(REFUSED)
 }
 
 /// The job that prints all rows of these tables as the `mysql` client does.
@@ -60,12 +51,12 @@ fn show_all<'a>(
     only: Follow,
     described: DescribedTables,
 ) -> Result<Job<'a>, Failure<'a>> {
-    Ok(Job::Show(Selection {
+    let selection = Selection {
         chosen: Chosen::new(alloc, only)?,
         format: Format::Tsv,
         encoding: Encoding::Base64,
-        described: Some(described),
-    }))
+    };
+    Ok(Job::Show(selection, Some(described)))
 }
 
 /// All of a file, or of standard input.
@@ -79,24 +70,4 @@ fn read_text<'a>(rt: &HostRuntime, name: &'a str) -> Result<Vec<u8>, Failure<'a>
         Ok(_) => Ok(text),
         Err(cause) => Err(Failure::File { name, cause }),
     }
-}
-
-/// Reports how many rows one side lacks, if there are any, and returns the status.
-fn reported<E: Write>(found: Differences, file: &str, db: &str, err: &mut E) -> u8
-    ensures { result ≤ MEMORY }
-{
-    let Differences {
-        of_text,
-        of_written,
-    } = found;
-    if of_text == 0 && of_written == 0 {
-        return DONE;
-    }
-    let _ = writeln!(
-        err,
-        "mrep: {of_text} rows of {} alone, {of_written} of {} alone",
-        Shown(file),
-        Shown(db)
-    );
-    REFUSED
 }

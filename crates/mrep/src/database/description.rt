@@ -1,8 +1,7 @@
-//! The description of columns that a command is given, and what it asks for beside it.
+//! The description of columns that a command is given.
 
 use crate::report::failure::Failure;
 use columns::Description;
-use formats::{Encoding, Format, encoding_of};
 use std::fs;
 use typed_rows::DescribedTables;
 
@@ -21,22 +20,5 @@ pub fn read_description<'a>(rt: &HostRuntime, name: &'a str) -> Result<Descripti
     match Description::read(rt.alloc(), &text) {
         Ok(description) => Ok(description),
         Err(fault) => Err(Failure::Description { name, fault }),
-    }
-}
-
-/// The form of bytes of a word: where columns are described, JSON alone has several, and base64 without a word.
-pub fn encoding_with<'a>(
-    word: Option<&str>,
-    format: Format,
-    is_described: bool,
-) -> Result<Encoding, Failure<'a>> {
-    let found = match (is_described, format, word) {
-        (true, Format::Json, None) => Some(Encoding::Base64),
-        (true, Format::Csv, Some(_)) => None,
-        _ => encoding_of(word, format),
-    };
-    match found {
-        Some(encoding) => Ok(encoding),
-        None => Err(Failure::Bytes),
     }
 }

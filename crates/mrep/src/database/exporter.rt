@@ -4,29 +4,21 @@ ghost use Rattle.std.specs.Prelude.{◌≡◌, false};
 
 use crate::database::open::FileOf;
 use crate::report::failure::Failure;
-use formats::{Chosen, Shown, write_table};
+use formats::{Chosen, Shown};
 use gtid::GtidSet;
 use sqlite::{Alter, Connection, Error, ErrorCode};
 use std::alloc::Global;
 use std::io;
 use std::io::Write;
 use store::{ListError, Listed, Store, StoreFault, Visitor};
-use typed_rows::{Collected, TableError, TableRows, Tables};
-
-/// Which tables are made.
-#[derive(Drop)]
-pub struct Wanted {
-    pub tables: Tables,
-    /// The tables that are named.
-    pub chosen: Chosen,
-}
+use typed_rows::{Export, ExportedRows, TableError};
 
 /// Which tables are made, and where.
 #[derive(Drop)]
-pub struct Export<'a> {
+pub struct Exporter<'a> {
     /// The name of the file that is made.
     pub to: &'a str,
-    pub wanted: Wanted,
+    pub export: Export,
     /// The new database.
     pub conn: Connection<FileOf>,
 }
@@ -37,19 +29,19 @@ pub fn export_rows<'a, S: Alter, W: Write>(
     alloc: Global,
     name: &'a str,
     store: &mut Store<S>,
-    export: Export<'a>,
+    exporter: Exporter<'a>,
     out: &mut W,
 ) -> Result<(), Failure<'a>> {
-    let Export {
+    let Exporter {
         to,
-        wanted,
+        export,
         mut conn,
-    } = export;
+    } = exporter;
     if !conn.is_autocommit() {
         return Err(of_sqlite(to, Error::SqliteFailure(ErrorCode::TransactionState)));
     }
-    note_emptiness(alloc, name, store, &wanted.tables, out)?;
-    let chosen = add_rows(alloc, [name, to], store, &mut conn, wanted)?;
+    note_emptiness(alloc, name, store, &export, out)?;
+    let chosen = add_rows(alloc, [name, to], store, &mut conn, export)?;
     match conn.close() {
         Ok(()) => {
             chosen.note_missing(name, out)?;
@@ -64,21 +56,13 @@ fn note_emptiness<S: Alter, W: Write>(
     alloc: Global,
     name: &str,
     store: &Store<S>,
-    tables: &Tables,
+    export: &Export,
     out: &mut W,
 ) -> io::Result<()> {
     if store.executed().is_subset(&GtidSet::new(alloc)) {
         return writeln!(out, "mrep: {}: it has no transaction", Shown(name));
     }
-    for table in tables.all() {
-        let (schema, of) = (table.schema.as_bytes(), table.name.as_bytes());
-        if !store.following().follows(schema, of) {
-            write!(out, "mrep: {}: it does not keep the rows of ", Shown(name))?;
-            write_table(schema, of, out)?;
-            out.write_all(b"\n")?;
-        }
-    }
-    Ok(())
+    export.note_left_out(name, store.following(), out)
 }
 
 /// Makes tables and adds the rows to them. The names are those of the database and of the file that is made.
@@ -87,77 +71,55 @@ fn add_rows<'a, S: Alter, T: Alter>(
     names: [&'a str; 2],
     store: &mut Store<S>,
     conn: &mut Connection<T>,
-    wanted: Wanted,
+    export: Export,
 ) -> Result<Chosen, Failure<'a>>
     requires { conn.old.in_transaction ≡ false }
 {
-    let [name, to] = names;
-    let Wanted { tables, chosen } = wanted;
-    let rows = match TableRows::begin(alloc, &tables, conn) {
+    let Export { tables, chosen } = export;
+    let rows = match ExportedRows::begin(alloc, &tables, chosen, conn) {
         Ok(rows) => rows,
-        Err(cause) => return Err(of_sqlite(to, cause)),
+        Err(cause) => return Err(of_sqlite(names[1], cause)),
     };
-    let mut all = Exported {
-        chosen,
-        collected: Collected::new(alloc),
-        rows,
-    };
-    match list_into(store, &mut all) {
+    let mut added = Added { rows };
+    match store.list(&mut added) {
         Ok(()) => {}
-        Err(ListError::Store(cause)) => return Err(Failure::Database { name, cause }),
-        Err(ListError::Visitor(TableError::Database(cause))) => return Err(of_sqlite(to, cause)),
-        Err(ListError::Visitor(TableError::Misfit(misfit))) => {
-            return Err(Failure::Misfit { name, misfit });
+        Err(ListError::Store(cause)) => {
+            return Err(Failure::Database {
+                name: names[0],
+                cause,
+            });
         }
+        Err(ListError::Visitor(error)) => return Err(of_tables(names, error)),
     }
-    let Exported { chosen, rows, .. } = all;
-    match rows.commit() {
-        Ok(()) => Ok(chosen),
-        Err(cause) => Err(of_sqlite(to, cause)),
+    let Added { rows } = added;
+    match rows.finish() {
+        Ok(chosen) => Ok(chosen),
+        Err(error) => Err(of_tables(names, error)),
     }
 }
 
-/// Adds rows to tables.
+/// Adds the rows of a list to tables.
 #[derive(Drop)]
-struct Exported<'d, 'c, T: Alter> {
-    chosen: Chosen,
-    collected: Collected,
-    rows: TableRows<'d, 'c, T>,
+struct Added<'d, 'c, T: Alter> {
+    rows: ExportedRows<'d, 'c, T>,
 }
 
-/// Adds the rows of a database to tables.
-fn list_into<S: Alter, T: Alter>(
-    store: &mut Store<S>,
-    all: &mut Exported<'_, '_, T>,
-) -> Result<(), ListError<TableError>> {
-    store.list(all)?;
-    let Exported {
-        collected,
-        rows,
-        ..
-    } = all;
-    match rows.add_collected(collected) {
-        Ok(()) => Ok(()),
-        Err(error) => Err(ListError::Visitor(error)),
-    }
-}
-
-impl<T: Alter> Visitor for Exported<'_, '_, T> {
+impl<T: Alter> Visitor for Added<'_, '_, T> {
     type Error = TableError;
 
     ghost row_gives = { λ _ _ _ _. Unit {0} };
 
     fn row(&mut self, row: &Listed<'_>) -> Result<(), TableError> {
-        if !self.chosen.takes(row.schema, row.table) {
-            return Ok(());
-        }
-        self.rows.write(
-            &mut self.collected,
-            row.schema,
-            row.table,
-            row.count,
-            &row.image,
-        )
+        self.rows.row(row.schema, row.table, row.count, &row.image)
+    }
+}
+
+/// The failure of adding rows to tables. The names are those of the database and of the file that is made.
+fn of_tables<'a>(names: [&'a str; 2], error: TableError) -> Failure<'a> {
+    let [name, to] = names;
+    match error {
+        TableError::Database(cause) => of_sqlite(to, cause),
+        TableError::Misfit(misfit) => Failure::Misfit { name, misfit },
     }
 }
 

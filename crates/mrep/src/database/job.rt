@@ -8,10 +8,9 @@ ghost use Rattle.store.specs.State.{Content};
 ghost use Rattle.store.specs.Changes.{with_executed};
 ghost use Rattle.store.specs.Store.{Applies, Holds, HoldsAs, database};
 
-use crate::database::exporter::{Export, export_rows};
+use crate::database::exporter::{Exporter, export_rows};
 use crate::database::printer::{Selection, print_rows, print_tallies};
-use crate::database::skip_feed::SkipFeed;
-use crate::report::failure::Failure;
+use crate::report::failure::{Failure, of_skip};
 use formats::{Chosen, text_of};
 use gather::{Changes, Delivery};
 use gtid::{Gtid, GtidSet};
@@ -19,7 +18,8 @@ use sqlite::Alter;
 use std::alloc::Global;
 use std::io;
 use std::io::Write;
-use store::{Applied, Store};
+use store::{Applied, Store, StoreFault};
+use typed_rows::{DescribedTables, SkipFeed};
 
 /// What is done with a store.
 #[derive(Drop)]
@@ -36,10 +36,10 @@ pub enum Job<'a> {
     Skip(Gtid, Option<SkipFeed<'a>>),
     /// Its filter is printed, and how many rows of each table it has.
     Tables,
-    /// Its rows are printed.
-    Show(Selection),
+    /// Its rows are printed, with names and types if tables are described.
+    Show(Selection, Option<DescribedTables>),
     /// Its rows are added to tables of another database, and what is to be reported of tables without rows is printed.
-    Export(Export<'a>),
+    Export(Exporter<'a>),
 }
 
 /// What comes of a job, to be printed once the database is closed.
@@ -60,7 +60,7 @@ impl<'a> Job<'a> {
     pub fn only_reads(&self) -> bool {
         matches!(
             self,
-            Job::Executed | Job::Missing(_) | Job::Tables | Job::Show(_)
+            Job::Executed | Job::Missing(_) | Job::Tables | Job::Show(_, _)
         )
     }
 
@@ -85,11 +85,13 @@ impl<'a> Job<'a> {
                 Ok(()) => Ok(Done::Nothing),
                 Err(failure) => Err(failure),
             },
-            Job::Show(selection) => match print_rows(alloc, name, store, selection, out) {
-                Ok(chosen) => Ok(Done::Shown(chosen)),
-                Err(failure) => Err(failure),
-            },
-            Job::Export(export) => match export_rows(alloc, name, store, export, out) {
+            Job::Show(selection, described) => {
+                match print_rows(alloc, name, store, selection, described.as_ref(), out) {
+                    Ok(chosen) => Ok(Done::Shown(chosen)),
+                    Err(failure) => Err(failure),
+                }
+            }
+            Job::Export(exporter) => match export_rows(alloc, name, store, exporter, out) {
                 Ok(()) => Ok(Done::Nothing),
                 Err(failure) => Err(failure),
             },
@@ -190,10 +192,29 @@ fn skip_and_feed<'a, S: Alter>(
         return Ok(Applied::Repeat);
     }
     let executed = text_of(alloc, store.executed())?;
-    let mut skipping = feed.begin(alloc, executed.as_str(), gtid)?;
+    let mut skipping = match feed.begin(alloc, executed.as_str(), gtid) {
+        Ok(skipping) => skipping,
+        Err(error) => return Err(of_skip(feed.name, error)),
+    };
     let done = skip(alloc, name, store, gtid);
-    skipping.end(alloc, gtid, &done)?;
-    done
+    match skipping.end(alloc, is_recorded(&done)) {
+        Ok(()) => done,
+        Err(error) => Err(of_skip(feed.name, error)),
+    }
+}
+
+/// Whether a transaction was recorded: after a failure of the database that is not known.
+fn is_recorded(done: &Result<Applied, Failure<'_>>) -> Option<bool> {
+    match done {
+        Ok(_) => Some(true),
+        Err(
+            Failure::Database {
+                cause: StoreFault::Database(_),
+                ..
+            },
+        ) => None,
+        Err(_) => Some(false),
+    }
 }
 
 /// Applies a transaction without changes.

@@ -2,23 +2,18 @@
 
 ghost use Rattle.std.specs.Prelude.{◌≡◌, Ok, IfOk};
 
-use crate::database::exporter::{Export, Wanted, of_sqlite};
+use crate::database::exporter::{Exporter, of_sqlite};
 use crate::database::job::{Done, Job};
 use crate::report::failure::{Failure, of_file, over_file};
-use binlog::Follow;
 use files::{LOCKED, Opening, is_file, missing_wal, opening_fault, reading_fault, remove_unused};
-use gtid::Gtid;
-use replica::{
-    Capture, ClearedFile, Config, Deliveries, Duplex, FirstCopy, FollowedFile, LoadedFile,
-    Observer, Replayed, Unopened, clear_file, close_file, follow_file, load_file, open_file,
-};
+use replica::{Unopened, close_file, open_file};
 use sqlite::{Alter, Connection, Error, ErrorCode, File, FileStore, Files};
 use sqlite_disk::Unknown;
 use sqlite_std_file::OpenError;
 use std::alloc::Global;
-use std::io;
-use std::io::{Read, Write};
+use std::io::Write;
 use store::{Damage, Store, StoreFault};
+use typed_rows::Export;
 
 /// A store in a database file.
 pub type FileOf = FileStore<File>;
@@ -54,7 +49,7 @@ pub fn work_on<'a, W: Write>(
     job: Job<'a>,
     out: &mut W,
 ) -> Result<Done, Failure<'a>> {
-    let opening = over_file(name, Opening::begin(rt, name))?;
+    let opening = opening(rt, name)?;
     match work_in(rt, Place::named(name), opening.wal, job, out) {
         Ok(done) => Ok(done),
         Err(failure) => {
@@ -84,7 +79,7 @@ pub fn export_from<'a>(
     part: &str,
     to: &'a str,
     db: &'a str,
-    wanted: Wanted,
+    export: Export,
 ) -> Result<Vec<u8>, Failure<'a>> {
     let conn = match Connection::open(rt, part) {
         Ok(conn) => conn,
@@ -95,7 +90,7 @@ pub fn export_from<'a>(
         file: to,
         content: db,
     };
-    let job = Job::Export(Export { to, wanted, conn });
+    let job = Job::Export(Exporter { to, export, conn });
     let mut notes = Vec::new(rt.alloc());
     work_in(rt, place, None, job, &mut notes)?;
     Ok(notes)
@@ -120,84 +115,27 @@ fn work_in<'a, W: Write>(
     }
 }
 
-/// The failure of an opening, whose files are closed, after the lock of the name is given up.
-fn give_up<'a>(
+/// Takes the name of a database for one that is opened by it next.
+pub fn opening<'a>(rt: &HostRuntime, name: &'a str) -> Result<Opening, Failure<'a>> {
+    over_file(name, Opening::begin(rt, name))
+}
+
+/// What was done with the database of this name, whose opening was begun so. If it could not be opened, its files are closed and
+/// the name is given up.
+pub fn opened<'a, T>(
     rt: &HostRuntime,
     name: &'a str,
     opening: Opening,
-    unopened: Unopened<File>,
-) -> Failure<'a> {
+    done: Result<T, Unopened<File>>,
+) -> Result<T, Failure<'a>> {
+    let unopened = match done {
+        Ok(done) => return Ok(done),
+        Err(unopened) => unopened,
+    };
     let Opening { lock, wal } = opening;
     let failure = refusal(rt, Place::named(name), leave(rt, wal, unopened));
     lock.discard(rt, name);
-    failure
-}
-
-/// Reads captured connections into the database in a file, which is made if it does not exist, and closed at the end. With a
-/// filter, the database is made for it or must have been; without one, its own filter holds.
-pub fn replay_into<'a, R: Read + Drop, W: Observer>(
-    rt: &HostRuntime,
-    name: &'a str,
-    only: Option<&Follow>,
-    config: &Config,
-    captures: Vec<Capture<R>>,
-    observer: &mut W,
-) -> Result<Replayed<File>, Failure<'a>> {
-    let opening = over_file(name, Opening::begin(rt, name))?;
-    match replica::replay(rt, name, Unknown, only, config, captures, observer) {
-        Ok(done) => Ok(done),
-        Err(unopened) => Err(give_up(rt, name, opening, unopened)),
-    }
-}
-
-/// Follows a source into the database in a file, which is opened as by [`replay_into`] before `connect` is called, and closed
-/// at the end.
-pub fn follow_into<'a, T: Duplex + Drop, F: FnOnce() -> io::Result<T> + Drop, W: Observer>(
-    rt: &HostRuntime,
-    name: &'a str,
-    only: Option<&Follow>,
-    config: Config,
-    connect: F,
-    observer: &mut W,
-) -> Result<FollowedFile<T, io::Error, File>, Failure<'a>>
-    requires { F.IsAlwaysCallable connect }
-{
-    let opening = over_file(name, Opening::begin(rt, name))?;
-    match follow_file(rt, name, Unknown, only, config, connect, observer) {
-        Ok(done) => Ok(done),
-        Err(unopened) => Err(give_up(rt, name, opening, unopened)),
-    }
-}
-
-/// Loads a first copy of tables into the database in a file, which is opened with its own filter, and closed at the end.
-pub fn load_into<'a, I: Deliveries + Drop, W: Observer>(
-    rt: &HostRuntime,
-    name: &'a str,
-    copy: FirstCopy<'_>,
-    deliveries: I,
-    observer: &mut W,
-) -> Result<LoadedFile<I::Error, File>, Failure<'a>> {
-    let opening = over_file(name, Opening::begin(rt, name))?;
-    match load_file(rt, name, Unknown, None, copy, deliveries, observer) {
-        Ok(done) => Ok(done),
-        Err(unopened) => Err(give_up(rt, name, opening, unopened)),
-    }
-}
-
-/// Takes all rows of a table out of the database in a file, which is opened with its own filter, and closed at the end.
-pub fn clear_in<'a, W: Observer>(
-    rt: &HostRuntime,
-    name: &'a str,
-    schema: &[u8],
-    table: &[u8],
-    gtid: Gtid,
-    observer: &mut W,
-) -> Result<ClearedFile<File>, Failure<'a>> {
-    let opening = over_file(name, Opening::begin(rt, name))?;
-    match clear_file(rt, name, Unknown, schema, table, gtid, observer) {
-        Ok(done) => Ok(done),
-        Err(unopened) => Err(give_up(rt, name, opening, unopened)),
-    }
+    Err(failure)
 }
 
 /// Locks a file that is there as an open database is locked, until the result is dropped. Nothing is written to it. A file

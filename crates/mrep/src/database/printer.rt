@@ -1,6 +1,6 @@
 //! The rows of a database, in one of the formats, and how many there are of each table.
 
-use crate::report::failure::Failure;
+use crate::report::failure::{Failure, of_row};
 use formats::{Chosen, Encoding, Format, Records, Tallies, write_filter, write_object, write_row};
 use sqlite::Alter;
 use std::alloc::Global;
@@ -16,21 +16,20 @@ pub struct Selection {
     pub chosen: Chosen,
     pub format: Format,
     pub encoding: Encoding,
-    /// The tables that are described, whose rows have names and types.
-    pub described: Option<DescribedTables>,
 }
 
-/// Prints rows, with the number of copies or as often as there are. Returns of which of the tables there was a row.
+/// Prints rows, with the number of copies or as often as there are, those of described tables with names and types if there are any.
+/// Returns of which of the tables there was a row.
 pub fn print_rows<'a, S: Alter, W: Write>(
     alloc: Global,
     name: &'a str,
     store: &mut Store<S>,
     selection: Selection,
+    described: Option<&DescribedTables>,
     out: &mut W,
 ) -> Result<Chosen, Failure<'a>> {
-    let mut selection = selection;
-    if let Some(tables) = selection.described.take() {
-        return print_typed(alloc, name, store, &tables, selection, out);
+    if let Some(tables) = described {
+        return print_typed(alloc, name, store, tables, selection, out);
     }
     if selection.format == Format::Csv {
         return print_records(alloc, name, store, selection, out);
@@ -62,10 +61,7 @@ fn print_typed<'a, S: Alter, W: Write>(
     match store.list(&mut all) {
         Ok(()) => {}
         Err(ListError::Store(cause)) => return Err(Failure::Database { name, cause }),
-        Err(ListError::Visitor(RowError::Output(cause))) => return Err(Failure::Output(cause)),
-        Err(ListError::Visitor(RowError::Misfit(misfit))) => {
-            return Err(Failure::Misfit { name, misfit });
-        }
+        Err(ListError::Visitor(error)) => return Err(of_row(name, error)),
     }
     let Typed { chosen, .. } = all;
     Ok(chosen)

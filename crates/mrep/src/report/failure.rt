@@ -6,16 +6,18 @@ ghost use Rattle.mrep.specs.declared.report.failure.Failure.TheVariants as varia
 
 use clap::error::ErrorKind;
 use columns::{DescriptionFault, LineFault};
+use command_line::ArgumentFault;
 use files::FileFault;
 use first_copy::CopyFault;
-use formats::{Shown, write_named, write_table};
+use formats::{Shown, write_named};
 use gtid::GtidFault;
 use replica::{ConfigFault, Unloadable};
+use reports::write_unloadable;
 use std::alloc::{AllocError, AllocFailed};
 use std::io;
 use std::io::Write;
 use store::{Damage, StoreFault};
-use typed_rows::{Misfit, TablesFault};
+use typed_rows::{Misfit, RowError, SkipError, TablesFault};
 
 /// Done.
 pub const DONE: u8 = 0;
@@ -28,54 +30,13 @@ pub const FILES: u8 = 3;
 /// Out of memory.
 pub const MEMORY: u8 = 4;
 
-const NO_GTID: &str =
-    "not a GTID: expected a hyphenated UUID, `:` and a number from 1 to 9223372036854775806";
-
-const NO_TABLE: &str =
-    "not a table: expected SCHEMA.TABLE, with `%` only before two hexadecimal digits";
-
-const NO_SCHEMA: &str =
-    "not a schema: expected its name, without `.`, and with `%` only before two hexadecimal digits";
-
-const NO_BYTES: &[u8] =
-    b"mrep: --bytes needs --format json, or csv without --columns, or --changes\n";
-
-const NO_COLUMNS: &[u8] = b"mrep: --format tsv and sql need --columns\n";
-
-const OTHER_SET: &str =
-    "it has executed other transactions than those that the copy has, so that their changes of other tables would be lost: follow until exactly the executed set of the copy, or copy again";
-
 /// Why a command failed.
 #[derive(Drop)]
 pub enum Failure<'a> {
     /// The arguments are not those of a command.
     Words(clap::Error),
-    /// The argument with this name is not the text of a GTID set.
-    Set {
-        word: &'a str,
-        cause: GtidFault,
-    },
-    /// The argument with this name is not a GTID.
-    Gtid {
-        word: &'a str,
-    },
-    /// This argument is not the name of a table.
-    Table {
-        word: &'a str,
-    },
-    /// This argument is not the name of a schema.
-    Schema {
-        word: &'a str,
-    },
-    /// This argument is not a number from 1 to the largest.
-    Number {
-        word: &'a str,
-        largest: u32,
-    },
-    /// A form of bytes is asked for, and the format has one form alone.
-    Bytes,
-    /// A format is asked for whose rows need names and types, and no description is given.
-    Columns,
+    /// The value of an argument is none.
+    Argument(ArgumentFault<'a>),
     /// The file of this name is no description of columns.
     Description {
         name: &'a str,
@@ -196,15 +157,9 @@ impl Failure<'_> {
     {
         match self {
             Failure::Words(error) if error.kind() == ErrorKind::OutOfMemory => MEMORY,
-            Failure::Words(_)
-            | Failure::Set { .. }
-            | Failure::Gtid { .. }
-            | Failure::Table { .. }
-            | Failure::Schema { .. }
-            | Failure::Number { .. }
-            | Failure::Bytes
-            | Failure::Columns
-            | Failure::User { .. } => USAGE,
+            Failure::Words(_) | Failure::User { .. } => USAGE,
+            Failure::Argument(ArgumentFault::Memory) => MEMORY,
+            Failure::Argument(_) => USAGE,
             Failure::Description { fault, .. } => description_status(*fault),
             Failure::Tables {
                 fault: TablesFault::Memory,
@@ -230,19 +185,7 @@ impl Failure<'_> {
     pub fn write<E: Write>(&self, err: &mut E) -> io::Result<()> {
         match self {
             Failure::Words(error) => write!(err, "{error}"),
-            Failure::Set { word, cause } => write_named(word, cause, err),
-            Failure::Gtid { word } => write_named(word, &NO_GTID, err),
-            Failure::Table { word } => write_named(word, &NO_TABLE, err),
-            Failure::Schema { word } => write_named(word, &NO_SCHEMA, err),
-            Failure::Number { word, largest } => {
-                writeln!(
-                    err,
-                    "mrep: {}: not a number from 1 to {largest}",
-                    Shown(word)
-                )
-            }
-            Failure::Bytes => err.write_all(NO_BYTES),
-            Failure::Columns => err.write_all(NO_COLUMNS),
+            Failure::Argument(fault) => fault.write(err),
             Failure::Description { name, fault } => {
                 writeln!(
                     err,
@@ -283,28 +226,6 @@ impl Failure<'_> {
     }
 }
 
-/// Writes why a copy may not be loaded, and what to do.
-fn write_unloadable<E: Write>(name: &str, why: &Unloadable, err: &mut E) -> io::Result<()> {
-    match why {
-        Unloadable::Failed(cause) => write_named(name, cause, err),
-        Unloadable::OtherSet => write_named(name, &OTHER_SET, err),
-        Unloadable::LeftOut(table) => {
-            write!(
-                err,
-                "mrep: {}: it was made for other tables than ",
-                Shown(name)
-            )?;
-            write_table(&table.schema, &table.table, err)?;
-            writeln!(err)
-        }
-        Unloadable::HasRows(table) => {
-            write!(err, "mrep: {}: ", Shown(name))?;
-            write_table(&table.schema, &table.table, err)?;
-            writeln!(err, " has rows: clear it first, or export what it has")
-        }
-    }
-}
-
 /// The failure of the file of this name.
 pub fn of_file<'a>(name: &'a str, fault: FileFault) -> Failure<'a> {
     match fault {
@@ -322,6 +243,23 @@ pub fn over_file<'a, T: Drop>(name: &'a str, done: Result<T, FileFault>) -> Resu
     }
 }
 
+/// The failure of printing the rows of the database of this name.
+pub fn of_row<'a>(name: &'a str, error: RowError) -> Failure<'a> {
+    match error {
+        RowError::Output(cause) => Failure::Output(cause),
+        RowError::Misfit(misfit) => Failure::Misfit { name, misfit },
+    }
+}
+
+/// The failure of the change feed of this name to say that a transaction is skipped.
+pub fn of_skip<'a>(name: &'a str, error: SkipError) -> Failure<'a> {
+    match error {
+        SkipError::File(fault) => of_file(name, fault),
+        SkipError::Output(RowError::Output(cause)) => Failure::File { name, cause },
+        SkipError::Output(RowError::Misfit(misfit)) => Failure::Misfit { name, misfit },
+    }
+}
+
 /// Writes the message of a failure, if there is one.
 pub fn write_failure<E: Write>(done: Result<(), Failure<'_>>, err: &mut E) {
     if let Err(failure) = done {
@@ -334,6 +272,14 @@ impl From<clap::Error> for Failure<'_> {
 
     fn from(error: clap::Error) -> Self {
         Failure::Words(error)
+    }
+}
+
+impl<'a> From<ArgumentFault<'a>> for Failure<'a> {
+    ghost from_gives = { λ fault failure. failure ≡ variants.Argument fault };
+
+    fn from(fault: ArgumentFault<'a>) -> Self {
+        Failure::Argument(fault)
     }
 }
 

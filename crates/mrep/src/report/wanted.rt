@@ -1,15 +1,14 @@
 //! What `mrep replay` and `mrep follow` are asked for beside what they read.
 
-use crate::arguments::{gtid_set, tables, word};
-use crate::database::description::{encoding_with, read_tables};
+use crate::database::description::read_tables;
 use crate::report::failure::{Failure, of_file, over_file};
-use crate::report::watch::{Reports, Stop};
 use binlog::Follow;
 use clap::ArgMatches;
+use command_line::{ArgumentFault, parse_encoding, parse_set, parse_tables, word};
 use formats::{Chosen, Format, Progress};
 use gtid::GtidSet;
 use metrics::{Status, StatusFile};
-use reports::Pulse;
+use reports::{Pulse, Reports, Source, Stop};
 use std::alloc::Global;
 use std::io::{IsTerminal, Write};
 use std::rc::Rc;
@@ -49,7 +48,7 @@ impl<'g, 'a> Wanted<'g, 'a> {
     pub fn of(given: &'g ArgMatches<'a>) -> Result<Wanted<'g, 'a>, Failure<'a>> {
         let (changes, bytes) = (given.get_str("changes"), given.get_str("bytes"));
         if bytes.is_some() && changes.is_none() {
-            return Err(Failure::Bytes);
+            return Err(ArgumentFault::Bytes.into());
         }
         Ok(Wanted {
             db: word(given, "db"),
@@ -66,7 +65,7 @@ impl<'g, 'a> Wanted<'g, 'a> {
     /// The filter that the tables make, if any are named.
     pub fn filter(&self, alloc: Global) -> Result<Option<Follow>, Failure<'a>> {
         match self.only {
-            Some(words) => Ok(Some(tables(alloc, words)?)),
+            Some(words) => Ok(Some(parse_tables(alloc, words)?)),
             None => Ok(None),
         }
     }
@@ -74,8 +73,22 @@ impl<'g, 'a> Wanted<'g, 'a> {
     /// The set that is waited for, if there is one.
     pub fn until(&self, alloc: Global) -> Result<Option<GtidSet>, Failure<'a>> {
         match self.until {
-            Some(text) => Ok(Some(gtid_set(alloc, "--until", text)?)),
+            Some(text) => Ok(Some(parse_set(alloc, "--until", text)?)),
             None => Ok(None),
+        }
+    }
+
+    /// These streams, or a source at this port, read as it is wanted.
+    pub fn source<'s>(&self, rt: &'s HostRuntime, streams: &'s [&'s str], port: u16) -> Source<'s>
+    where
+        'a: 's,
+    {
+        Source {
+            rt,
+            streams,
+            port,
+            db: self.db,
+            changes: self.feed_name(),
         }
     }
 
@@ -156,7 +169,7 @@ impl<'g, 'a> Wanted<'g, 'a> {
         let Some(name) = self.changes else {
             return Ok(None);
         };
-        let encoding = encoding_with(self.bytes, Format::Json, self.columns.is_some())?;
+        let encoding = parse_encoding(self.bytes, Format::Json, self.columns.is_some())?;
         if name == OUTPUT {
             return Ok(Some(Feed::to_output(rt.alloc(), encoding)));
         }

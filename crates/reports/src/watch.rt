@@ -1,14 +1,14 @@
-//! What `mrep replay` and `mrep follow` report while they read: the line of each end, progress, and the change feed.
+//! What a command reports while it reads: the line of each end, progress, and the change feed.
 
 ghost use Rattle.std.specs.Prelude.{◌≡◌, true, is_some, None};
 
-use crate::report::wanted::Wanted;
+use crate::pulse::Pulse;
+use crate::reason::{Halt, can_skip, write_advice, write_cause, write_end};
 use binlog::Event;
 use formats::{Chosen, Details, Shown, text_of};
 use gather::Delivery;
 use gtid::GtidSet;
 use replica::{Ended, Observer, Reason, Refusal};
-use reports::{Halt, Pulse, can_skip, write_advice, write_cause, write_end};
 use std::io;
 use std::io::Write;
 use std::rc::Rc;
@@ -48,24 +48,6 @@ pub struct Source<'a> {
     pub db: &'a str,
     /// The name of the change feed: `-` for standard output, also without one.
     pub changes: &'a str,
-}
-
-impl<'a> Source<'a> {
-    /// These streams, or a source at this port, read as it is wanted.
-    pub fn of(
-        rt: &'a HostRuntime,
-        streams: &'a [&'a str],
-        port: u16,
-        wanted: &Wanted<'_, 'a>,
-    ) -> Source<'a> {
-        Source {
-            rt,
-            streams,
-            port,
-            db: wanted.db,
-            changes: wanted.feed_name(),
-        }
-    }
 }
 
 /// What is reported, where it is asked for.

@@ -1,0 +1,165 @@
+//! The values that arguments stand for.
+
+ghost use Rattle.std.specs.Prelude.{◌≡◌, ◌≤◌, IfOk};
+ghost use Rattle.gtid.specs.Identifier.{Ids};
+ghost use Rattle.gtid.specs.Text.{IsRead};
+ghost use Rattle.command_line.specs.declared.arguments.ArgumentFault.TheVariants as variants;
+
+use binlog::Follow;
+use clap::ArgMatches;
+use formats::{Encoding, Format, Shown, encoding_of, read_table, write_named};
+use gtid::{Gtid, GtidFault, GtidSet};
+use std::alloc::{AllocError, AllocFailed, Global};
+use std::io;
+use std::io::Write;
+
+const NO_GTID: &str =
+    "not a GTID: expected a hyphenated UUID, `:` and a number from 1 to 9223372036854775806";
+
+const NO_TABLE: &str =
+    "not a table: expected SCHEMA.TABLE, with `%` only before two hexadecimal digits";
+
+const NO_SCHEMA: &str =
+    "not a schema: expected its name, without `.`, and with `%` only before two hexadecimal digits";
+
+const NO_BYTES: &[u8] =
+    b"mrep: --bytes needs --format json, or csv without --columns, or --changes\n";
+
+const NO_COLUMNS: &[u8] = b"mrep: --format tsv and sql need --columns\n";
+
+/// Why arguments are not what they should be.
+#[derive(Drop)]
+pub enum ArgumentFault<'a> {
+    /// The argument with this name is not the text of a GTID set.
+    Set { word: &'a str, cause: GtidFault },
+    /// The argument with this name is not a GTID.
+    Gtid { word: &'a str },
+    /// This argument is not the name of a table.
+    Table { word: &'a str },
+    /// This argument is not the name of a schema.
+    Schema { word: &'a str },
+    /// This argument is not a number from 1 to the largest.
+    Number { word: &'a str, largest: u32 },
+    /// A form of bytes is asked for, and the format has one form alone.
+    Bytes,
+    /// A format is asked for whose rows need names and types, and no description is given.
+    Columns,
+    /// An allocation was refused.
+    Memory,
+}
+
+impl ArgumentFault<'_> {
+    /// Writes the message.
+    pub fn write<E: Write>(&self, err: &mut E) -> io::Result<()> {
+        match self {
+            ArgumentFault::Set { word, cause } => write_named(word, cause, err),
+            ArgumentFault::Gtid { word } => write_named(word, &NO_GTID, err),
+            ArgumentFault::Table { word } => write_named(word, &NO_TABLE, err),
+            ArgumentFault::Schema { word } => write_named(word, &NO_SCHEMA, err),
+            ArgumentFault::Number { word, largest } => {
+                writeln!(
+                    err,
+                    "mrep: {}: not a number from 1 to {largest}",
+                    Shown(word)
+                )
+            }
+            ArgumentFault::Bytes => err.write_all(NO_BYTES),
+            ArgumentFault::Columns => err.write_all(NO_COLUMNS),
+            ArgumentFault::Memory => err.write_all(b"mrep: out of memory\n"),
+        }
+    }
+}
+
+impl From<AllocError> for ArgumentFault<'_> {
+    ghost from_gives = { λ _ fault. fault ≡ variants.Memory };
+
+    fn from(_error: AllocError) -> Self {
+        ArgumentFault::Memory
+    }
+}
+
+impl<T: Drop> From<AllocFailed<T>> for ArgumentFault<'_> {
+    ghost from_gives = { λ _ fault. fault ≡ variants.Memory };
+
+    fn from(_error: AllocFailed<T>) -> Self {
+        ArgumentFault::Memory
+    }
+}
+
+/// The argument of this name, which is required.
+pub fn word<'a>(given: &ArgMatches<'a>, name: &str) -> &'a str {
+    given.get_str(name).unwrap_or("")
+}
+
+/// The set whose text this argument is.
+pub fn parse_set<'a>(alloc: Global, word: &'a str, text: &str) -> Result<GtidSet, ArgumentFault<'a>>
+    ensures { IfOk result (λ read. (ids : Ids) → IsRead text.now ids → read ≡ ids) }
+{
+    match GtidSet::parse(alloc, text) {
+        Ok(set) => Ok(set),
+        Err(GtidFault::Memory) => Err(ArgumentFault::Memory),
+        Err(cause) => Err(ArgumentFault::Set { word, cause }),
+    }
+}
+
+/// A number from 1 to the largest, in decimal digits.
+pub fn parse_number<'a>(word: &'a str, largest: u32) -> Result<u32, ArgumentFault<'a>>
+    ensures { IfOk result (λ n. (1 ≤ n) × (n ≤ largest)) }
+{
+    match word.parse::<u32>() {
+        Ok(number) if number >= 1 && number <= largest && !word.starts_with('+') => Ok(number),
+        _ => Err(ArgumentFault::Number { word, largest }),
+    }
+}
+
+/// The filter of the tables that these words name.
+pub fn parse_tables<'a>(alloc: Global, words: &[&'a str]) -> Result<Follow, ArgumentFault<'a>> {
+    let mut names = Vec::with_capacity(alloc, words.len())?;
+    for word in words {
+        names.push(parse_table(alloc, word)?)?;
+    }
+    match Follow::new(alloc, &names) {
+        Ok(filter) => Ok(filter),
+        Err(_) => Err(ArgumentFault::Memory),
+    }
+}
+
+/// The table that a word names: its schema and itself.
+pub fn parse_table<'a>(
+    alloc: Global,
+    word: &'a str,
+) -> Result<(Vec<u8>, Vec<u8>), ArgumentFault<'a>> {
+    match read_table(alloc, word)? {
+        Some(name) => Ok(name),
+        None => Err(ArgumentFault::Table { word }),
+    }
+}
+
+/// The name of the schema that a word is, written as the schema in the name of a table is.
+pub fn parse_schema<'a>(alloc: Global, word: &'a str) -> Result<Vec<u8>, ArgumentFault<'a>> {
+    let table = format!(in alloc; "{word}.t")?;
+    match read_table(alloc, table.as_str())? {
+        Some((schema, _)) => Ok(schema),
+        None => Err(ArgumentFault::Schema { word }),
+    }
+}
+
+/// The GTID that the argument with this name is.
+pub fn parse_gtid<'a>(word: &'a str, text: &str) -> Result<Gtid, ArgumentFault<'a>> {
+    match Gtid::parse(text) {
+        Some(gtid) => Ok(gtid),
+        None => Err(ArgumentFault::Gtid { word }),
+    }
+}
+
+/// The form of bytes of a word, if it is one of the format.
+pub fn parse_encoding<'a>(
+    word: Option<&str>,
+    format: Format,
+    is_described: bool,
+) -> Result<Encoding, ArgumentFault<'a>> {
+    match encoding_of(word, format, is_described) {
+        Some(encoding) => Ok(encoding),
+        None => Err(ArgumentFault::Bytes),
+    }
+}

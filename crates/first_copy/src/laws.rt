@@ -1,0 +1,33 @@
+//! Laws about the definitions, for callers.
+//!
+//! A law is a function with an empty body: its clauses are proved of the definitions themselves.
+
+ghost use Rattle.std.specs.Prelude.{◌≡◌, ℕ, List, length, false, true, Some};
+ghost use Rattle.std.specs.List.{AllByRecursion};
+ghost use Rattle.gtid.specs.Identifier.{Ids};
+ghost use Rattle.binlog.specs.Filter.{Names};
+ghost use Rattle.columns.specs.declared.table.DescribedTable.{DescribedTable};
+ghost use Rattle.gather.specs.Transaction.{DeliveryValue};
+ghost use Rattle.store.specs.State.{Content, TableRow};
+ghost use Rattle.store.specs.Changes.{adopted, is_admitted};
+ghost use Rattle.replica.specs.Conn.{AppliesAll};
+ghost use Rattle.replica.specs.Copied.{AreAdded, NoneExecuted, with_all};
+ghost use Rattle.first_copy.specs.CopyLines.{IsEndLine};
+ghost use Rattle.first_copy.specs.LoadedText.{HasLinesOf};
+ghost use Rattle.first_copy.specs.Supplied.{all_changes, supply_of};
+
+/// A text that is loaded whole adds its rows, each line once.
+pub fn loaded()
+    // If all transactions of a text, of a source none of which was executed before, are applied to a content with a set added, and the
+    // filter admits their tables: then the text is a line for each row that is added, in order, and the line at the end
+    // with their number; each row is added once; and the set and the transactions are executed.
+    ensures { (names : Names) (tables : List DescribedTable) (source text : List ℕ)
+        (old new : Content) (ids : Ids) (ds : List DeliveryValue) (n : ℕ)
+        → (supply_of false false tables source 0 0 (Some text)).are_all ds
+        → AllByRecursion (λ change. is_admitted names change ≡ true) (all_changes ds)
+        → NoneExecuted source 1 (adopted old ids).executed
+        → AppliesAll names (adopted old ids) ds n new
+        → (rows : List TableRow) × HasLinesOf tables rows (IsEndLine (length rows)) text
+        × (n ≡ length ds) × AreAdded rows old.rows new.rows
+        × (new.executed ≡ with_all (adopted old ids).executed ds) }
+{}
