@@ -42,6 +42,11 @@ def text(gtids, rows):
     return b''.join([b'mrep copy 1\n', gtids.encode(), b'\n', *(row + b'\n' for row in rows), b'end\t%d\n' % len(rows)])
 
 
+def loaded_set(gtids, copy, transactions=1):
+    """The executed set after so many transactions of a copy at this set: the first GTID of its source is executed with the set."""
+    return with_source(gtids, source(gtids, copy), 1 + transactions)
+
+
 def source(gtids, copy):
     """The source of the transactions of a copy, by RFC 9562, 5.5: of the set as it is printed, and of the lines behind it."""
     lines = copy.split(b'\n', 2)[2]

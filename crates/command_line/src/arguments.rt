@@ -1,14 +1,16 @@
 //! The values that arguments stand for.
 
-ghost use Rattle.std.specs.Prelude.{◌≡◌, ◌≤◌, IfOk};
+ghost use Rattle.std.specs.Prelude.{◌≡◌, ◌≤◌, IfOk, Ok};
 ghost use Rattle.gtid.specs.Identifier.{Ids};
 ghost use Rattle.gtid.specs.Text.{IsRead};
+ghost use Rattle.hex.specs.Hex.{decode_of};
 ghost use Rattle.command_line.specs.declared.arguments.ArgumentFault.TheVariants as variants;
 
 use binlog::Follow;
 use clap::ArgMatches;
 use formats::{Encoding, Format, Shown, encoding_of, read_table, write_named};
 use gtid::{Gtid, GtidFault, GtidSet};
+use hex::FromHex;
 use std::alloc::{AllocError, AllocFailed, Global};
 use std::io;
 use std::io::Write;
@@ -21,6 +23,8 @@ const NO_TABLE: &str =
 
 const NO_SCHEMA: &str =
     "not a schema: expected its name, without `.`, and with `%` only before two hexadecimal digits";
+
+const NO_DIGEST: &str = "not a SHA-1: expected 40 hexadecimal digits";
 
 const NO_BYTES: &[u8] =
     b"mrep: --bytes needs --format json, or csv without --columns, or --changes\n";
@@ -38,6 +42,8 @@ pub enum ArgumentFault<'a> {
     Table { word: &'a str },
     /// This argument is not the name of a schema.
     Schema { word: &'a str },
+    /// The argument with this name is not a SHA-1.
+    Digest { word: &'a str },
     /// This argument is not a number from 1 to the largest.
     Number { word: &'a str, largest: u32 },
     /// A form of bytes is asked for, and the format has one form alone.
@@ -56,6 +62,7 @@ impl ArgumentFault<'_> {
             ArgumentFault::Gtid { word } => write_named(word, &NO_GTID, err),
             ArgumentFault::Table { word } => write_named(word, &NO_TABLE, err),
             ArgumentFault::Schema { word } => write_named(word, &NO_SCHEMA, err),
+            ArgumentFault::Digest { word } => write_named(word, &NO_DIGEST, err),
             ArgumentFault::Number { word, largest } => {
                 writeln!(
                     err,
@@ -149,6 +156,16 @@ pub fn parse_gtid<'a>(word: &'a str, text: &str) -> Result<Gtid, ArgumentFault<'
     match Gtid::parse(text) {
         Some(gtid) => Ok(gtid),
         None => Err(ArgumentFault::Gtid { word }),
+    }
+}
+
+/// The SHA-1 whose 40 hexadecimal digits, of either case, the argument with this name is.
+pub fn parse_digest<'a>(word: &'a str, text: &str) -> Result<[u8; 20], ArgumentFault<'a>>
+    ensures { IfOk result (λ digest. decode_of text.now ≡ Ok digest) }
+{
+    match <[u8; 20] as FromHex>::from_hex(text) {
+        Ok(digest) => Ok(digest),
+        Err(_) => Err(ArgumentFault::Digest { word }),
     }
 }
 

@@ -3,8 +3,8 @@
 //! The commands are a table, of which [`grammar`] makes what `clap` parses and prints as help, and [`write_completions`] what
 //! a shell reads. [`escaped`] is the error of words that are no command line, without their control characters.
 //!
-//! [`parse_set`], [`parse_number`] and their like are what a word stands for, and [`ArgumentFault`] why it is none. The first two have a
-//! contract.
+//! [`parse_set`], [`parse_number`], [`parse_digest`] and their like are what a word stands for, and [`ArgumentFault`] why it is
+//! none. These three have a contract.
 #![tactic(auto)]
 
 mod arguments;
@@ -14,8 +14,8 @@ mod mistake;
 mod table;
 
 pub use arguments::{
-    ArgumentFault, parse_encoding, parse_gtid, parse_number, parse_schema, parse_set, parse_table,
-    parse_tables, word,
+    ArgumentFault, parse_digest, parse_encoding, parse_gtid, parse_number, parse_schema, parse_set,
+    parse_table, parse_tables, word,
 };
 pub use completions::write_completions;
 pub use help::write_help;

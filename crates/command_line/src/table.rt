@@ -11,7 +11,7 @@ const VERSION: &str = "0.1.0";
 /// `rt version` prints it. The words after `revision` stand in the program as they do here, and `make` puts the revision in
 /// their place, since a program whose text changed with each revision would be proved with each.
 const LONG_VERSION: &str =
-    "0.1.0\nrevision unknown: it is stated by `make` in a git clone.\nlayout 2; a database of layout 1 is migrated\nproved with rattle-kit-13b logic dac8208d650f15bf";
+    "0.1.0\nrevision unknown: it is stated by `make` in a git clone.\nlayout 2; a database of layout 1 is migrated\nproved with rattle-kit-13f logic dac8208d650f15bf";
 
 /// The shells that `mrep completions` knows.
 const SHELLS: [&str; 3] = ["bash", "zsh", "fish"];
@@ -436,13 +436,18 @@ static COPYING: [CommandRow; 3] = [
                 Kind::NeededText("FILE"),
                 "The description of the columns, as the query of `mrep columns` gives it",
             ),
+            Argument(
+                "sha1",
+                Kind::Text("DIGEST"),
+                "The SHA-1 of COPY, as `sha1sum` prints it: another text is refused",
+            ),
             PROGRESS,
             CHANGES,
             BYTES,
             Argument(
                 "COPY",
                 Kind::Word,
-                "The file that the `mysql` client has written of the statements of `mrep select`",
+                "The file that the `mysql` client has written of the statements of `mrep select`; `-` for standard input, of which the SHA-1 has to be given",
             ),
         ],
         "Example:\n  mrep load --db F.db --columns shop.columns items.copy && mrep follow --db F.db ..",

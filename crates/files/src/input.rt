@@ -1,7 +1,8 @@
-//! What a stream is read from: a file, or standard input.
+//! What is read: a file, or standard input.
 
 use std::fs::File;
 use std::io::Read;
+use std::os::unix::fs::FileExt;
 use std::rt::Stdin;
 use std::{fs, io};
 
@@ -13,6 +14,8 @@ pub const INPUT: &str = "-";
 pub enum Input {
     File(File),
     Standard(Stdin),
+    /// A file, from this place on, of which others may read other places.
+    Kept { file: File, at: u64 },
 }
 
 impl Input {
@@ -42,6 +45,11 @@ impl Read for Input {
         match self {
             Input::File(file) => file.read(buf),
             Input::Standard(input) => input.read(buf),
+            Input::Kept { file, at } => {
+                let count = file.read_at(buf, *at)?;
+                *at = at.saturating_add(count as u64);
+                Ok(count)
+            }
         }
     }
 }

@@ -3,7 +3,8 @@
 //!
 //! [`Opening`] is what stands before a database file is opened: the lock of its name, and the file itself, made with its
 //! first page where there was none. [`Names`] and [`Part`] copy a database that others may be writing, [`FeedFile`] is
-//! a file to whose end the lines of a change feed are written, and [`Input`] is what a stream is read from.
+//! a file to whose end the lines of a change feed are written, [`Input`] is what a stream is read from, and [`KeptInput`]
+//! keeps standard input, so that it can be read twice.
 //!
 //! Nothing is specified about what a file has, so no function has a contract but [`FileFault`]'s conversions; each says why
 //! it refuses a file, and never by stopping the process.
@@ -14,6 +15,7 @@ mod copying;
 mod fault;
 mod feed_file;
 mod input;
+mod kept_input;
 mod name_lock;
 mod names;
 mod new_file;
@@ -28,6 +30,7 @@ pub use copy_part::{Part, make_part};
 pub use fault::FileFault;
 pub use feed_file::FeedFile;
 pub use input::{INPUT, Input};
+pub use kept_input::KeptInput;
 pub use name_lock::{LOCKED, NameLock, keep_one_name, lock_alone};
 pub use names::Names;
 pub use opening::{Opening, missing_wal, opening_fault, remove_unused};

@@ -78,11 +78,11 @@ all_rows names tables source number Then (d ∷ ds) text have admitted =
       lines_both tables first.0 others.0 Then text (subst (λ (l : List ℕ). HasLinesOf tables first.0 (λ more. HasLinesOf tables others.0 Then more) l) (sym have.2) (first.3 (λ more. HasLinesOf tables others.0 Then more) have.1 others.4)),
     )
 
-pub loaded : (names : Names) (tables : List DescribedTable) (source text : List ℕ) (old new : Content) (ids : Ids) (ds : List DeliveryValue) (n : ℕ) → HaveLines tables source 1 (IsEndLine (0 + length (all_changes ds))) ds text → Admitted names (all_changes ds)
-    → NoneExecuted source 1 (adopted old ids).executed → AppliesAll names (adopted old ids) ds n new
+pub loaded : (names : Names) (tables : List DescribedTable) (source text : List ℕ) (old new : Content) (ids : Ids) (ds : List DeliveryValue) (n : ℕ) → HaveLines tables source 2 (IsEndLine (0 + length (all_changes ds))) ds text → Admitted names (all_changes ds)
+    → NoneExecuted source 2 (adopted old ids).executed → AppliesAll names (adopted old ids) ds n new
     → (rows : List TableRow) × HasLinesOf tables rows (IsEndLine (length rows)) text × (n ≡ length ds) × AreAdded rows old.rows new.rows × (new.executed ≡ with_all (adopted old ids).executed ds)
 loaded names tables source text old new ids ds n have admitted none applies =
-    let all = all_rows names tables source 1 (IsEndLine (0 + length (all_changes ds))) ds text have admitted in
+    let all = all_rows names tables source 2 (IsEndLine (0 + length (all_changes ds))) ds text have admitted in
     let same : 0 + length (all_changes ds) ≡ length all.0 = zero-add (length (all_changes ds)) ∙ sym all.3 in
-    let made = loaded_rows names source 1 (adopted old ids) ds all.0 n new none all.2 all.1 applies in
+    let made = loaded_rows names source 2 (adopted old ids) ds all.0 n new none all.2 all.1 applies in
     (all.0, subst (λ (k : ℕ). HasLinesOf tables all.0 (IsEndLine k) text) same all.4, made.0, made.1, made.2)

@@ -17,7 +17,8 @@ HaveLines tables source number Left (d ∷ ds) text =
     (lines : List ℕ) × (rest : List ℕ) × (text ≡ lines ++ rest) × IsChunk tables d.changes lines × ((2 ^ 23 ≤ length lines) ⊎ BeginsWithEnd rest)
     × (d.source ≡ source) × (d.number ≡ number) × HaveLines tables source (number + 1) Left ds rest
 
--- What a copy gives that has given so many transactions with so many rows, and has not failed. If it has ended, it gives none.
+-- What a copy gives that has given so many GTIDs of its source, the first one with its set and one for each transaction, and so many rows,
+-- and has not failed. If it has ended, it gives none.
 abbrev pub supply_of : Bool → Bool → List DescribedTable → List ℕ → ℕ → ℕ → Option (List ℕ) → Supply
 supply_of failed ended tables source given rows text = record {
   begins = λ ds. (failed ≡ false) × (ended ≡ false) × IfSome text (λ bs. HaveLines tables source (given + 1) (λ _. Unit {0}) ds bs);

@@ -18,14 +18,14 @@ ghost use Rattle.first_copy.specs.Supplied.{all_changes, supply_of};
 
 /// A text that is loaded whole adds its rows, each line once.
 pub fn loaded()
-    // If all transactions of a text, of a source none of which was executed before, are applied to a content with a set added, and the
-    // filter admits their tables: then the text is a line for each row that is added, in order, and the line at the end
-    // with their number; each row is added once; and the set and the transactions are executed.
+    // If all transactions of a text, of a source none of which was executed before from the second GTID on, are applied to a content
+    // with a set added, and the filter admits their tables: then the text is a line for each row that is added, in order, and
+    // the line at the end with their number; each row is added once; and the set and the transactions are executed.
     ensures { (names : Names) (tables : List DescribedTable) (source text : List ℕ)
         (old new : Content) (ids : Ids) (ds : List DeliveryValue) (n : ℕ)
-        → (supply_of false false tables source 0 0 (Some text)).are_all ds
+        → (supply_of false false tables source 1 0 (Some text)).are_all ds
         → AllByRecursion (λ change. is_admitted names change ≡ true) (all_changes ds)
-        → NoneExecuted source 1 (adopted old ids).executed
+        → NoneExecuted source 2 (adopted old ids).executed
         → AppliesAll names (adopted old ids) ds n new
         → (rows : List TableRow) × HasLinesOf tables rows (IsEndLine (length rows)) text
         × (n ≡ length ds) × AreAdded rows old.rows new.rows

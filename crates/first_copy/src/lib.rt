@@ -3,6 +3,7 @@
 
 mod copied_rows;
 mod copy_fault;
+mod digest;
 mod end_line;
 mod fault;
 mod filling;
@@ -20,6 +21,7 @@ mod table_front;
 
 pub use copied_rows::{CopiedRows, RowsFault};
 pub use copy_fault::CopyFault;
+pub use digest::text_digest;
 pub use fault::RowFault;
 pub use head::read_head;
 pub use loader::{CHUNK, Loader};

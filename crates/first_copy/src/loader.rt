@@ -28,8 +28,10 @@ pub struct Loader<R> {
     /// What was read and is of no transaction: nothing, or the line at the end.
     line: Vec<u8>,
     source: [u8; 16],
-    /// How many transactions were given, and how many rows are in them.
+    /// How many GTIDs of the source were given: the first one, which is executed with the set of the copy, and one for each
+    /// transaction.
     given: u64,
+    /// How many rows are in the transactions that were given.
     rows: u64,
     /// Of the lines that were taken.
     hasher: Sha1,
@@ -57,7 +59,7 @@ impl<R: BufRead> Loader<R> {
     where
         R: Drop,
         ensures err { IfErr result (λ fault. fault ≡ CopyFault.Memory) }
-        ensures begin { IfOk result (λ made. (made.given ≡ 0) × (made.rows ≡ 0)
+        ensures begin { IfOk result (λ made. (made.given ≡ 1) × (made.rows ≡ 0)
             × (made.failed ≡ false) × (made.ended ≡ false)) }
         ensures source { IfOk result (λ made. made.source ≡ source) }
         ensures tables { IfOk result (λ made. made.taker.description ≡ description) }
@@ -75,7 +77,7 @@ impl<R: BufRead> Loader<R> {
             reader,
             line: Vec::new(alloc),
             source,
-            given: 0,
+            given: 1,
             rows: 0,
             hasher: Sha1::new(),
             ended: false,
@@ -217,7 +219,7 @@ impl<R: BufRead> Loader<R> {
     }
 
     /// The next transaction: its GTID has the loader's source and a number that is one more than that of the one before,
-    /// from 1 on, and its changes add the rows of the next lines, in order. It ends after the line with which they have
+    /// from 2 on, and its changes add the rows of the next lines, in order. It ends after the line with which they have
     /// [`CHUNK`] bytes or more, or before the line at the end. `None` comes once that line is read, which says how many rows
     /// were given, and after which nothing follows. After an error the loader has ended with it, and gives no more.
     pub fn next(&mut self) -> Result<Option<Delivery>, CopyFault>
@@ -258,7 +260,7 @@ impl<R: BufRead> Loader<R> {
     }
 }
 
-/// The GTID of the transaction after so many.
+/// The GTID of a source after so many.
 fn next_gtid(source: [u8; 16], given: u64) -> Option<Gtid>
     ensures { IfSome result (λ gtid. (gtid.source ≡ source) × (gtid.number ≡ given + 1)) }
 {

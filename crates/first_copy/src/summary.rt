@@ -105,7 +105,7 @@ fn names_of(alloc: Global, tables: &[TableCount]) -> Result<Vec<(Vec<u8>, Vec<u8
     Ok(names)
 }
 
-/// The GTID of the first transaction of a copy with this executed set and this digest of the lines after its head.
+/// The first GTID of the source of a copy with this executed set and this digest of the lines after its head.
 fn first_gtid(alloc: Global, executed: &GtidSet, digest: &[u8; 20]) -> Result<Gtid, CopyFault>
     ensures { IfOk result (λ gtid. gtid.number ≡ 1) }
 {
@@ -126,7 +126,7 @@ fn first_gtid(alloc: Global, executed: &GtidSet, digest: &[u8; 20]) -> Result<Gt
 #[derive(Drop)]
 pub struct Summary {
     executed: GtidSet,
-    /// The first of its transactions.
+    /// The first GTID of its source.
     first: Gtid,
     names: Follow,
     tables: Vec<TableCount>,
@@ -196,9 +196,9 @@ impl Summary {
         description: Description,
         mut reader: R,
     ) -> Result<CopiedRows<R>, CopyFault>
-        // None was given yet, and the first one that comes is the copy's.
+        // No transaction was given yet, and the first one that comes is the copy's.
         ensures begin { IfOk result (λ made. (made.changed ≡ false) × (made.loader.failed ≡ false)
-            × (made.loader.ended ≡ false) × (made.loader.given ≡ 0) × (made.loader.rows ≡ 0)
+            × (made.loader.ended ≡ false) × (made.loader.given ≡ 1) × (made.loader.rows ≡ 0)
             × (made.loader.source ≡ self.now.first.source)) }
         ensures described { IfOk result (λ made. made.loader.taker.description ≡ description) }
         ensures text { IfOk result (λ made. FollowsHead (R.Read.remaining reader)

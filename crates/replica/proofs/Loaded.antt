@@ -1,5 +1,5 @@
 -- A store into which a first copy is loaded, and its files.
-use Rattle.std.proofs.Common.{◌≡◌, ℕ, Bool, true, false, [], Result, Ok, Err, IfOk, IfErr, IsTrue, refl, sym, ap, subst, ◌∙◌, arith}
+use Rattle.std.proofs.Common.{◌≡◌, ℕ, Bool, true, false, [], inl, None, Result, Ok, Err, IfOk, IfErr, IsTrue, refl, sym, ap, subst, ◌∙◌, arith}
 use Rattle.std.specs.FinSet as set
 use Rattle.sqlite_disk.specs.declared.Disk.{Ghosts}
 use Rattle.sqlite_disk.specs.declared.Files.{Files}
@@ -33,15 +33,18 @@ use Rattle.replica.specs.declared.loading.LoadEnd.TheVariants.{Changed, Refused}
 use Rattle.replica.specs.declared.loading.Unloadable.{Unloadable}
 use Rattle.replica.specs.Given.{Supply}
 use Rattle.replica.specs.File.{KeepsContent, IsCleanlyClosed}
-use Rattle.replica.specs.Copies.{IsUnloadable, MayNotLoad}
-use Rattle.replica.specs.Noted.{Account}
+use Rattle.replica.specs.Copies.{IsUnloadable, MayNotLoad, with_first}
+use Rattle.replica.specs.declared.changing.ChangeEnd.TheVariants.{NotAdopted}
+use Rattle.replica.specs.Noted.{Account, IsLedTo}
 use Rattle.replica.specs.Change.{begun_with}
 use Rattle.replica.specs.Over.{HasStayed}
+use Rattle.replica.specs.Changing.{HasChanged}
 use Rattle.replica.specs.Loading.{JudgesCopy, HasLoaded, IsLedByLoad}
 use Rattle.replica.specs.LoadFile.{LoadsTo, IsNotedOfLoad}
 use Rattle.replica.proofs.Closed.{clean_before_closing}
 use Rattle.replica.proofs.ClearFiles.{keeps_stayed}
 use Rattle.replica.proofs.Changed.{changed_into, noted_from}
+use Rattle.replica.proofs.Noted.{nothing_noted, waits_none}
 
 module _ {S : Type 0} (g : StoreGhosts S) where
   pub keeps_of : (store : Store S g) (content : Content) → Holds g store content → Keeps g store content
@@ -83,6 +86,20 @@ module _ {S : Type 0} (g : StoreGhosts S) where
     },
   )
 
+  -- a copy may be loaded, and memory runs out before its set is adopted
+  pub unadopted : {E : Type 0} (before after : Store S g) (old : Content) (ids : Ids) (left : Supply) → after.following ≡ before.following → Holds g after old
+      → ((trees : Trees) → (state g after.conn).may_leave trees → AreOf (state g before.conn).now.schema before.following old trees) → HasChanged g {E = E} before.following after old ids left 0 (NotAdopted fault.Memory)
+  unadopted before after old ids left later holds crash = record {
+    change = record { taken = []; last = None; gives = tt; new = old; applies = (refl, refl); why = (refl, refl, tt) };
+    is = false;
+    holds = holds;
+    schema = (state g before.conn).now.schema;
+    leaves = record { each = λ trees may. (old, subst (λ n. AreOf (state g before.conn).now.schema n old trees) (sym later) (crash trees may), inl refl) };
+  }
+
+  pub led_nowhere : (before after : Store S g) (old : Content) (account : Account) → Holds g after old → IsLedTo g before after false old account account []
+  led_nowhere before after old account holds = record { now_broken = false; new = old; holds = holds; noted_of = nothing_noted before.following old account account refl (λ on. on) (waits_none account.waits) }
+
 module _ {D : Type 0} (g : Ghosts D) (names : Names) (old : Content) (opened after : Store (FileStore D g) over_files) where
   pub loaded_into : {E : Type 0} (only : Names) (left : Supply) (ids : Ids) (first : Id) (tables : Names) (applied : ℕ) (end : LoadEnd E) (closed : Result (Files D) (Error × FileStore D g))
       → after.following ≡ opened.following → (HasCleanDisk (database over_files after) → Holds over_files opened old × (opened.following ≡ names))
@@ -95,7 +112,7 @@ module _ {D : Type 0} (g : Ghosts D) (names : Names) (old : Content) (opened aft
         let clean = clean_before_closing after.conn closed copied failed honest in
         let o = opens clean in
         (subst (λ n. HasLoaded over_files {E = E} n after old ids first tables left applied (Changed end)) o.1 (loads clean old o.0)).0),
-    changed_into g names old opened after left ids applied end closed same opens (λ clean content holds. (loads clean content holds).1) copied failed,
+    changed_into g names old opened after left (with_first ids first) applied end closed same opens (λ clean content holds. (loads clean content holds).1) copied failed,
   )
   loaded_into {E} only left ids first tables applied (Refused why) closed same opens loads copied failed = (
     (λ honest.
@@ -105,11 +122,11 @@ module _ {D : Type 0} (g : Ghosts D) (names : Names) (old : Content) (opened aft
     keeps_stayed g names old opened after only old closed same opens (λ clean holds. (loads clean old holds).1) copied failed,
   )
 
-  pub noted_of_load : {E : Type 0} (ids : Ids) (t0 t1 : Account) (end : LoadEnd E) (closed : Result (Files D) (Error × FileStore D g))
+  pub noted_of_load : {E : Type 0} (ids : Ids) (first : Id) (t0 t1 : Account) (end : LoadEnd E) (closed : Result (Files D) (Error × FileStore D g))
       → after.following ≡ opened.following → (HasCleanDisk (database over_files after) → Holds over_files opened old × (opened.following ≡ names))
-      → (HasCleanDisk (database over_files after) → Holds over_files opened old → IsLedByLoad over_files opened after old ids t0 t1 end)
+      → (HasCleanDisk (database over_files after) → Holds over_files opened old → IsLedByLoad over_files opened after old ids first t0 t1 end)
       → IfOk closed (λ files. AreClean g files.log files.db → IsCopied after.conn files)
       → IfErr closed (λ e. IsClosed after.conn e.1 × (IsClean (view e.1) → FailsToClose after.conn e.1 e.0))
-      → IsNotedOfLoad names old ids t0 t1 end closed
-  noted_of_load ids t0 t1 (Changed end) closed same opens notes copied failed = noted_from g names old opened after (begun_with end old ids) t0 t1 closed same opens notes copied failed
-  noted_of_load ids t0 t1 (Refused why) closed same opens notes copied failed = tt
+      → IsNotedOfLoad names old ids first t0 t1 end closed
+  noted_of_load ids first t0 t1 (Changed end) closed same opens notes copied failed = noted_from g names old opened after (begun_with end old (with_first ids first)) t0 t1 closed same opens notes copied failed
+  noted_of_load ids first t0 t1 (Refused why) closed same opens notes copied failed = tt

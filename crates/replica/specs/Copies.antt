@@ -32,13 +32,17 @@ HaveNoRows tables content =
 abbrev pub AreAdmitted : Names → Names → Type 0
 AreAdmitted names tables = (schema table : List ℕ) → set.contains tables (schema, table) ≡ true → admits names schema table ≡ true
 
+-- What a copy adds to the executed set when it begins: its set, and the first GTID of its source. So it is known that it was begun.
+abbrev pub with_first : Ids → Id → Ids
+with_first ids first = set.insert ids first
+
 -- A copy that was not begun may be: the database is at its set, its filter admits the tables, and they have no rows.
 pub record MayBegin (names : Names) (content : Content) (ids : Ids) (tables : Names) : Type 0 where
   pub at : IsAtSet content.executed ids
   pub admitted : AreAdmitted names tables
   pub empty : HaveNoRows tables content
 
--- The copy may be loaded: it was begun, since the first of its transactions is executed; or it may begin.
+-- The copy may be loaded: it was begun, since the first GTID of its source is executed; or it may begin.
 abbrev pub MayLoad : Names → Content → Ids → Id → Names → Type 0
 MayLoad names content ids first tables = (set.contains content.executed first ≡ true) ⊎ MayBegin names content ids tables
 

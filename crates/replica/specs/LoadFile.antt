@@ -16,14 +16,14 @@ use Rattle.replica.specs.NotedFile.{IsNotedOfChange}
 use Rattle.replica.specs.File.{IsCleanlyClosed, KeepsContent}
 use Rattle.replica.specs.Change.{begun_with, MayStop, UnlessAdopted}
 use Rattle.replica.specs.ChangeFile.{ChangesFile}
-use Rattle.replica.specs.Copies.{MayLoad, MayNotLoad}
+use Rattle.replica.specs.Copies.{MayLoad, MayNotLoad, with_first}
 
--- The copy might be loaded, and the closed files hold what its set and its transactions make of the content; or it might not, and they
--- hold that content.
+-- The copy might be loaded, and the closed files hold what its set with its first GTID and then its transactions make of the content; or
+-- it might not, and they hold that content.
 abbrev pub LoadsTo : {D : Type 0} {g : Ghosts D} {E : Type 0} → Names → Supply → Names → Content → Ids → Id → Names → ℕ → LoadEnd E → Result (Files D) (Error × FileStore D g) → Type 0
 LoadsTo only left names old ids first tables applied (Changed end) closed =
     (IsCleanlyClosed closed → MayLoad names old ids first tables)
-    × ChangesFile left names old ids (record { applied = applied; end = end; closed = closed })
+    × ChangesFile left names old (with_first ids first) (record { applied = applied; end = end; closed = closed })
 LoadsTo only left names old ids first tables applied (Refused why) closed =
     (IsCleanlyClosed closed → MayNotLoad names old ids first tables why) × KeepsContent only names old closed
 
@@ -31,9 +31,9 @@ abbrev pub LoadsFile : {D : Type 0} {g : Ghosts D} {E : Type 0} → Names → Su
 LoadsFile only left names old ids first tables done = LoadsTo only left names old ids first tables done.applied done.end done.closed
 
 -- What was reported leads from the content with the set added to the one that the closed files hold; of a copy that is refused nothing is.
-abbrev pub IsNotedOfLoad : {D : Type 0} {g : Ghosts D} {E : Type 0} → Names → Content → Ids → Account → Account → LoadEnd E → Result (Files D) (Error × FileStore D g) → Type 0
-IsNotedOfLoad names old ids was is (Changed end) closed = IsNotedOfChange names (begun_with end old ids) was is closed
-IsNotedOfLoad names old ids was is (Refused why) closed = Unit {0}
+abbrev pub IsNotedOfLoad : {D : Type 0} {g : Ghosts D} {E : Type 0} → Names → Content → Ids → Id → Account → Account → LoadEnd E → Result (Files D) (Error × FileStore D g) → Type 0
+IsNotedOfLoad names old ids first was is (Changed end) closed = IsNotedOfChange names (begun_with end old (with_first ids first)) was is closed
+IsNotedOfLoad names old ids first was is (Refused why) closed = Unit {0}
 
 -- what holds if no set was adopted
 abbrev pub UnlessLoaded : {E : Type 0} → LoadEnd E → Type 0 → Type 0

@@ -19,7 +19,7 @@ use Rattle.replica.specs.Over.{HasStayed}
 use Rattle.replica.specs.Noted.{Account, IsLedTo}
 use Rattle.replica.specs.Change.{begun_with}
 use Rattle.replica.specs.Changing.{HasChanged}
-use Rattle.replica.specs.Copies.{MayLoad, MayNotLoad}
+use Rattle.replica.specs.Copies.{MayLoad, MayNotLoad, with_first}
 
 -- The row is of none of the tables, or is found to be of one.
 abbrev pub IsLookedAt : Names → Entry → Result (Unit {0}) Found → Type 0
@@ -36,10 +36,10 @@ module _ {S : Type 0} (g : Ghosts S) where
 
   -- The store holds the content that was led to, or keeps the one from before; and this is what a crash leaves.
   abbrev pub HasLoaded : {E : Type 0} → Names → Store S g → Content → Ids → Id → Names → Supply → ℕ → LoadEnd E → Type 0
-  HasLoaded names store old ids first tables left applied (Changed end) = MayLoad names old ids first tables × HasChanged g names store old ids left applied end
+  HasLoaded names store old ids first tables left applied (Changed end) = MayLoad names old ids first tables × HasChanged g names store old (with_first ids first) left applied end
   HasLoaded names store old ids first tables left applied (Refused why) = MayNotLoad names old ids first tables why × HasStayed g store old (λ left. left ≡ old)
 
   -- What was reported leads from the content with the set added to the one that the store holds; of a copy that is refused nothing is.
-  abbrev pub IsLedByLoad : {E : Type 0} → Store S g → Store S g → Content → Ids → Account → Account → LoadEnd E → Type 0
-  IsLedByLoad before after old ids was is (Changed end) = IsLedTo g before after false (begun_with end old ids) was is []
-  IsLedByLoad before after old ids was is (Refused why) = Unit {0}
+  abbrev pub IsLedByLoad : {E : Type 0} → Store S g → Store S g → Content → Ids → Id → Account → Account → LoadEnd E → Type 0
+  IsLedByLoad before after old ids first was is (Changed end) = IsLedTo g before after false (begun_with end old (with_first ids first)) was is []
+  IsLedByLoad before after old ids first was is (Refused why) = Unit {0}

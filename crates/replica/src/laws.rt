@@ -291,9 +291,9 @@ pub fn filtered()
 pub fn copied()
     // If none of its transactions was executed before, all of them are applied: their rows are added, each once, and their GTIDs
     // and the set are executed.
-    ensures loaded { (names : Names) (source : List ℕ) (old new : Content) (ids : Ids)
+    ensures loaded { (names : Names) (source : List ℕ) (number : ℕ) (old new : Content) (ids : Ids)
         (ds : List DeliveryValue) (rows : List TableRow) (n : ℕ)
-        → NoneExecuted source 1 (adopted old ids).executed → AreNumbered source 1 ds
+        → NoneExecuted source number (adopted old ids).executed → AreNumbered source number ds
         → AreCopied names ds rows → AppliesAll names (adopted old ids) ds n new
         → (n ≡ length ds) × AreAdded rows old.rows new.rows
         × (new.executed ≡ with_all (adopted old ids).executed ds) }

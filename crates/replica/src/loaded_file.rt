@@ -28,9 +28,9 @@ pub struct LoadedFile<E, D: Disk> {
 }
 
 /// Opens the database in a file and loads a first copy of tables, whose transactions `deliveries` gives: adds the set at which
-/// its rows were read to the executed set in one commit, and applies the transactions in order, each once and in a commit of
-/// its own, as [`change_file`](crate::change_file) does. Then it closes the database. A copy that was loaded in part goes on
-/// where it stopped.
+/// its rows were read, with the copy's first GTID, to the executed set in one commit, and applies the transactions in order,
+/// each once and in a commit of its own, as [`change_file`](crate::change_file) does. Then it closes the database. A copy that
+/// was begun goes on where it stopped, whatever has been executed since.
 ///
 /// A copy that was not begun is refused, and nothing is changed and nothing reported, unless the database has executed nothing
 /// but copies, or exactly that set besides; its filter admits the tables; and none of them has rows.
@@ -46,8 +46,8 @@ pub fn load_file<P: Start, I: Deliveries + Drop, W: Observer>(
     observer: &mut W,
 ) -> Result<LoadedFile<I::Error, FileFrom<P>>, Unopened<FileFrom<P>>>
     // If the files held a database that stands for a content, or none was there, the copy is loaded if it may be, and the closed
-    // files hold what its set and the first of its transactions, in order, each once, make of that content; all of them, if the
-    // end says so. If it may not be loaded, they hold the content of before.
+    // files hold what its set with its first GTID and the first of its transactions, in order, each once, make of that content;
+    // all of them, if the end says so. If it may not be loaded, they hold the content of before.
     ensures loads { IfOk result (λ done. (names : Names) (content : Content)
         → FilesHold (names_for (wanted_of only.entry)) names content (image_at P.Start)
         → LoadsFile (names_for (wanted_of only.entry)) (I.supply deliveries) names content
@@ -61,7 +61,7 @@ pub fn load_file<P: Start, I: Deliveries + Drop, W: Observer>(
     // What was reported to the observer leads from the content with the set added to the one that the closed files hold.
     ensures notes { IfOk result (λ done. (names : Names) (content : Content)
         → FilesHold (names_for (wanted_of only.entry)) names content (image_at P.Start)
-        → IsNotedOfLoad names content copy.entry.gtids.now
+        → IsNotedOfLoad names content copy.entry.gtids.now (id copy.entry.first)
         (W.account observer.old) (W.account observer.new) done.end done.closed) }
     // If the copy was refused or the set was not added, nothing was reported.
     ensures unreported { IfOk result (λ done. UnlessLoaded done.end

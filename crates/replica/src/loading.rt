@@ -8,7 +8,7 @@ ghost use Rattle.gtid.specs.Identifier.{id};
 ghost use Rattle.binlog.specs.Filter.{admits};
 ghost use Rattle.store.specs.State.{Content};
 ghost use Rattle.store.specs.Store.{AreOf, Holds, database, names_of};
-ghost use Rattle.replica.specs.Copies.{is_of_copy, AreOfCopies, IsAtSet, AreAdmitted};
+ghost use Rattle.replica.specs.Copies.{is_of_copy, AreOfCopies, IsAtSet, AreAdmitted, with_first};
 ghost use Rattle.replica.specs.Loading.{IsLookedAt, JudgesCopy, HasLoaded, IsLedByLoad};
 ghost use Rattle.replica.specs.LoadFile.{MayStopLoad, UnlessLoaded};
 
@@ -55,7 +55,7 @@ pub enum LoadEnd<E> {
 pub struct FirstCopy<'a> {
     /// What the source had executed when the rows were read.
     pub gtids: &'a GtidSet,
-    /// The GTID of the first of its transactions.
+    /// The first GTID of its source, which is executed as soon as the copy is begun, with the set. No transaction has it.
     pub first: Gtid,
     /// The tables that it has rows of, each by its name; none where it has no rows.
     pub tables: &'a Follow,
@@ -172,8 +172,7 @@ impl Visitor for NoRows<'_> {
     }
 }
 
-/// Whether a copy may be loaded that was read at this set, whose first transaction is this, and which has rows of these
-/// tables.
+/// Whether a copy may be loaded that was read at this set, whose first GTID is this, and which has rows of these tables.
 fn may_load<S: Alter>(
     alloc: Global,
     store: &mut Store<S>,
@@ -215,8 +214,17 @@ fn may_load<S: Alter>(
     }
 }
 
-/// Loads a copy, if that may be done: adopts its set and applies its transactions as [`change`] does. Returns how many were
-/// applied, and how that ended.
+/// What a copy adds to the executed set when it begins. The only error is `Memory`.
+fn set_of(copy: &FirstCopy<'_>) -> Result<GtidSet, GtidFault>
+    ensures { IfOk result (λ ids. ids ≡ with_first copy.now.gtids.now (id copy.now.first)) }
+{
+    let mut gtids = copy.gtids.copy()?;
+    gtids.insert(copy.first)?;
+    Ok(gtids)
+}
+
+/// Loads a copy, if that may be done: adopts its set with its first GTID, and applies its transactions as [`change`] does.
+/// Returns how many were applied, and how that ended.
 pub(crate) fn load<S: Alter, I: Deliveries, W: Observer>(
     alloc: Global,
     store: &mut Store<S>,
@@ -230,7 +238,7 @@ pub(crate) fn load<S: Alter, I: Deliveries, W: Observer>(
         (I.supply deliveries.old) result.0 result.1 }
     ensures notes { HasCleanDisk (database S.Store store.new) → (old : Content)
         → Holds S.Store store.old old → IsLedByLoad S.Store store.old store.new old
-        copy.now.gtids.now (W.account observer.old) (W.account observer.new) result.1 }
+        copy.now.gtids.now (id copy.now.first) (W.account observer.old) (W.account observer.new) result.1 }
     ensures asked { MayStopLoad result.1 (W.account observer.new) }
     ensures unreported { UnlessLoaded result.1 (observer.new ≡ observer.old) }
     ensures following { names_of S.Store store.new ≡ names_of S.Store store.old }
@@ -239,7 +247,13 @@ pub(crate) fn load<S: Alter, I: Deliveries, W: Observer>(
 {
     match may_load(alloc, store, copy.gtids, copy.first, copy.tables) {
         Ok(()) => {
-            let (applied, end) = change(store, copy.gtids, deliveries, observer);
+            let Ok(gtids) = set_of(copy) else {
+                return (
+                    0,
+                    LoadEnd::Changed(ChangeEnd::NotAdopted(StoreFault::Memory)),
+                );
+            };
+            let (applied, end) = change(store, &gtids, deliveries, observer);
             (applied, LoadEnd::Changed(end))
         }
         Err(why) => (0, LoadEnd::Refused(why)),

@@ -8,7 +8,6 @@ use crate::database::open::{closed, opened, opening};
 use crate::report::failure::{DONE, Failure, MEMORY, write_failure};
 use crate::report::wanted::Wanted;
 use clap::ArgMatches;
-use command_line::word;
 use first_copy::{RowsFault, Summary};
 use formats::Shown;
 use replica::{
@@ -34,12 +33,9 @@ pub fn load<'a, W: Write, E: Write>(
     ensures { IfOk result (λ status. status ≤ MEMORY) }
 {
     let wanted = Wanted::of(given)?;
-    let file = CopyFile {
-        name: word(given, "COPY"),
-        columns: word(given, "columns"),
-    };
+    let file = CopyFile::of(rt, given)?;
     let (summary, size) = file.summary(rt)?;
-    load_summary(rt, wanted, file, &summary, size, out, err)?;
+    load_summary(rt, wanted, &file, &summary, size, out, err)?;
     let printed = if wanted.feeds_output() {
         summary.print(err)
     } else {
@@ -53,7 +49,7 @@ pub fn load<'a, W: Write, E: Write>(
 fn load_summary<'a, W: Write, E: Write>(
     rt: &HostRuntime,
     wanted: Wanted<'_, 'a>,
-    file: CopyFile<'a>,
+    file: &CopyFile<'a>,
     summary: &Summary,
     size: u64,
     out: &mut W,

@@ -1,26 +1,66 @@
 //! The file of a first copy.
 
 use crate::database::description::read_description;
-use crate::report::failure::Failure;
+use crate::report::failure::{Failure, over_file};
+use clap::ArgMatches;
 use columns::Description;
-use files::{INPUT, Input};
-use first_copy::{CopiedRows, CopyFault, Summary};
+use command_line::{parse_digest, word};
+use files::{INPUT, Input, KeptInput};
+use first_copy::{CopiedRows, CopyFault, Summary, text_digest};
 use reports::{Metered, Pulse};
+use std::io;
 use std::io::{BufReader, Read};
 use std::rc::Rc;
 
-const TWICE: &str = "a copy is read twice, so it has to be in a file";
+/// How many bytes are read at a time for the SHA-1.
+const PIECE: usize = 1 << 16;
 
-/// The name of the file of a copy, and that of its description.
-#[derive(Clone, Copy)]
+const TWICE: &str =
+    "a copy is read twice, so it has to be in a file, or its SHA-1 is given for standard input";
+
+const OTHER: &str = "its SHA-1 is not the one that is given";
+
+/// The copy that a command is given, and the name of its description.
+#[derive(Drop)]
 pub struct CopyFile<'a> {
     pub name: &'a str,
-    pub columns: &'a str,
+    columns: &'a str,
+    /// What standard input had, if that is the copy.
+    kept: Option<KeptInput>,
 }
 
 impl<'a> CopyFile<'a> {
-    /// Reads the copy to its end. Returns how many bytes its file has, too.
-    pub fn summary(self, rt: &HostRuntime) -> Result<(Summary, u64), Failure<'a>> {
+    /// The copy that the arguments name: a file, or standard input, which is kept beside the database. Where a SHA-1 is given,
+    /// it has that one.
+    pub fn of(rt: &HostRuntime, given: &ArgMatches<'a>) -> Result<CopyFile<'a>, Failure<'a>> {
+        let (name, db) = (word(given, "COPY"), word(given, "db"));
+        let digest = match given.get_str("sha1") {
+            Some(text) => Some(parse_digest("--sha1", text)?),
+            None => None,
+        };
+        if name == INPUT && digest.is_none() {
+            return Err(Failure::Unusable { name, why: TWICE });
+        }
+        let mut kept = None;
+        if name == INPUT {
+            kept = Some(over_file(db, KeptInput::take(rt, db))?);
+        }
+        let file = CopyFile {
+            name,
+            columns: word(given, "columns"),
+            kept,
+        };
+        match digest {
+            Some(digest) if file.digest(rt)? != digest => Err(Failure::Unusable {
+                name,
+                why: OTHER,
+            }),
+            _ => Ok(file),
+        }
+    }
+
+    /// Reads the copy to its end. Returns how many bytes it has, too.
+    pub fn summary(&self, rt: &HostRuntime) -> Result<(Summary, u64), Failure<'a>> {
         let (input, size) = self.open(rt)?;
         let (description, reader) = self.begin(rt, input)?;
         let summary = self.read(Summary::of(rt.alloc(), description, reader))?;
@@ -29,7 +69,7 @@ impl<'a> CopyFile<'a> {
 
     /// Its transactions, read once more.
     pub fn rows<'r>(
-        self,
+        &self,
         rt: &'r HostRuntime,
         summary: &Summary,
         pulse: Rc<Pulse>,
@@ -39,29 +79,42 @@ impl<'a> CopyFile<'a> {
         self.read(summary.rows(rt.alloc(), description, reader))
     }
 
-    /// Opens the file. Returns how many bytes it has, too.
-    fn open(self, rt: &HostRuntime) -> Result<(Input, u64), Failure<'a>> {
+    /// Opens what has it. Returns how many bytes it has, too.
+    fn open(&self, rt: &HostRuntime) -> Result<(Input, u64), Failure<'a>> {
         let name = self.name;
-        if name == INPUT {
-            return Err(Failure::Unusable { name, why: TWICE });
+        if let Some(kept) = &self.kept {
+            let input = self.used(kept.input())?;
+            return Ok((input, kept.size()));
         }
-        let input = Input::open(rt, name).map_err(|cause| Failure::File { name, cause })?;
-        match input.size() {
-            Ok(Some(size)) => Ok((input, size)),
-            Ok(None) => Err(Failure::Unusable { name, why: TWICE }),
-            Err(cause) => Err(Failure::File { name, cause }),
+        let input = self.used(Input::open(rt, name))?;
+        match self.used(input.size())? {
+            Some(size) => Ok((input, size)),
+            None => Err(Failure::Unusable { name, why: TWICE }),
         }
+    }
+
+    /// The SHA-1 of all its bytes.
+    fn digest(&self, rt: &HostRuntime) -> Result<[u8; 20], Failure<'a>> {
+        let (mut input, _) = self.open(rt)?;
+        let mut piece = vec![in rt.alloc(); 0; PIECE]?;
+        self.used(text_digest(&mut input, &mut piece))
     }
 
     /// The description, and a reader of the open file.
     fn begin<R: Read + Drop>(
-        self,
+        &self,
         rt: &HostRuntime,
         input: R,
     ) -> Result<(Description, BufReader<R>), Failure<'a>> {
         let description = read_description(rt, self.columns)?;
-        match BufReader::new(rt.alloc(), input) {
-            Ok(reader) => Ok((description, reader)),
+        let reader = self.used(BufReader::new(rt.alloc(), input))?;
+        Ok((description, reader))
+    }
+
+    /// What the system answered over it, whose failure names it.
+    fn used<T: Drop>(&self, done: io::Result<T>) -> Result<T, Failure<'a>> {
+        match done {
+            Ok(value) => Ok(value),
             Err(cause) => Err(Failure::File {
                 name: self.name,
                 cause,
@@ -70,7 +123,7 @@ impl<'a> CopyFile<'a> {
     }
 
     /// What was read of it, whose failure names it.
-    fn read<T: Drop>(self, read: Result<T, CopyFault>) -> Result<T, Failure<'a>> {
+    fn read<T: Drop>(&self, read: Result<T, CopyFault>) -> Result<T, Failure<'a>> {
         match read {
             Ok(value) => Ok(value),
             Err(fault) => Err(Failure::Copy {
