@@ -146,6 +146,16 @@ union_none left right none = set.same_set id_cmp_total id_cmp-same left (set.uni
     ∙ ap (λ b. set.contains left q || b) (ap (λ s. set.contains s q) none ∙ set.contains-empty id_cmp q)
     ∙ or-false (set.contains left q)))
 
+-- what is there already
+pub union_subset : (left right : Ids) → set.is_subset right left ≡ true → left ≡ set.union left right
+union_subset left right subset = set.same_set id_cmp_total id_cmp-same left (set.union left right) (λ q.
+    there (set.contains left q) (set.contains right q) (set.is_subset-contains id_cmp_total right left subset q) ∙ sym (set.contains-union id_cmp_total left right q))
+  where
+    there : (a b : Bool) → (b ≡ true → a ≡ true) → a ≡ (a || b)
+    there true b on = refl
+    there false true on = on refl
+    there false false on = refl
+
 pub difference_none : (left right : Ids) → (left ≡ set.empty) ⊎ (right ≡ set.empty) → left ≡ set.difference left right
 difference_none left right none = set.same_set id_cmp_total id_cmp-same left (set.difference left right) (λ q.
     sym (set.contains-difference id_cmp_total left right q ∙ same q none))

@@ -24,20 +24,20 @@ least-with : (end : ℕ) (xs ys zs : List Interval) → AreLeast end (xs ++ ys) 
 least-with end [] ys zs least new = new
 least-with end (x ∷ xs) ys zs (gap, some, small, least) new = (gap, some, small, least-with x.hi xs ys zs least new)
 
-is_below : (n : ℕ) (i : Interval) → n < i.lo → is_within n i ≡ false
+pub is_below : (n : ℕ) (i : Interval) → n < i.lo → is_within n i ≡ false
 is_below n i h = grind (arith, nat_tests)
 
-is_above : (n : ℕ) (i : Interval) → i.hi ≤ n → is_within n i ≡ false
+pub is_above : (n : ℕ) (i : Interval) → i.hi ≤ n → is_within n i ≡ false
 is_above n i h = grind (arith, nat_tests)
 
-is_in : (n : ℕ) (i : Interval) → i.lo ≤ n → n < i.hi → is_within n i ≡ true
+pub is_in : (n : ℕ) (i : Interval) → i.lo ≤ n → n < i.hi → is_within n i ≡ true
 is_in n i h k = grind (arith, nat_tests)
 
-none : {a b : Bool} → a ≡ false → b ≡ false → (a || b) ≡ false
+pub none : {a b : Bool} → a ≡ false → b ≡ false → (a || b) ≡ false
 none p q = cc (p, q)
 
 -- no number up to the end of what comes before
-below_least : (end : ℕ) (intervals : List Interval) (n : ℕ) → AreLeast end intervals → n ≤ end → has intervals n ≡ false
+pub below_least : (end : ℕ) (intervals : List Interval) (n : ℕ) → AreLeast end intervals → n ≤ end → has intervals n ≡ false
 below_least end [] n least le = refl
 below_least end (i ∷ intervals) n (gap, some, small, least) le = rw (is_below n i (omega arith)) (below_least i.hi intervals n least (omega arith))
 

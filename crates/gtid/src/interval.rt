@@ -52,6 +52,30 @@ pub(crate) fn is_subset(intervals: &[Interval], of: &[Interval]) -> bool
     true
 }
 
+/// Does what `is_subset` does in one pass over both, which takes linear time however many there are of either.
+pub(crate) fn is_subset_in_one_pass(intervals: &[Interval], of: &[Interval]) -> bool
+    requires intervals { AreLeast 0 intervals.now }
+    requires of { AreLeast 0 of.now }
+    ensures { IsTrue result ↔ ((n : ℕ) → has intervals.now n ≡ true → has of.now n ≡ true) }
+{
+    let mut parts = intervals;
+    let mut left = of;
+    while let [part, rest @ ..] = parts {
+        let [first, others @ ..] = left else {
+            return false;
+        };
+        if first.hi < part.hi {
+            left = others;
+            continue;
+        }
+        if part.lo < first.lo {
+            return false;
+        }
+        parts = rest;
+    }
+    true
+}
+
 /// Whether each number of an interval is in the others.
 fn lies_in(interval: Interval, of: &[Interval]) -> bool
     requires some { interval.lo < interval.hi }
