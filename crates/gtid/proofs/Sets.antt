@@ -167,6 +167,17 @@ difference_none left right none = set.same_set id_cmp_total id_cmp-same left (se
     same q (inl e) = ap (λ b. b && not (set.contains right q)) (empty q e) ∙ sym (empty q e)
     same q (inr e) = ap (λ b. set.contains left q && not b) (empty q e) ∙ and-true (set.contains left q)
 
+-- all is removed
+pub difference_subset : (left right : Ids) → set.is_subset left right ≡ true → set.empty ≡ set.difference left right
+difference_subset left right subset = set.same_set id_cmp_total id_cmp-same set.empty (set.difference left right) (λ q.
+    set.contains-empty id_cmp q
+    ∙ gone (set.contains left q) (set.contains right q) (set.is_subset-contains id_cmp_total left right subset q)
+    ∙ sym (set.contains-difference id_cmp_total left right q))
+  where
+    gone : (a b : Bool) → (a ≡ true → b ≡ true) → false ≡ (a && not b)
+    gone true b on = ap not (sym (on refl))
+    gone false b on = refl
+
 -- a set with nothing is the set
 pub is_copy : (x z : List Group) (ids : Ids) → ids_of x ≡ ids → ((q : Id) → is_listed q z ≡ keeps Union (is_listed q x) (is_listed q [])) → ids_of z ≡ ids
 is_copy x z ids is kept = same_ids ids z (λ q. kept q ∙ or-false (is_listed q x) ∙ sym (contains_listed x q) ∙ ap (λ s. set.contains s q) is)

@@ -145,7 +145,8 @@ pub(crate) enum Place {
     Before(usize, Group),
 }
 
-/// Makes room for a GTID, unless it is in one of the groups. The only error is `Memory`, and only for a new GTID.
+/// Makes room for a GTID, unless it is in one of the groups. The only error is `Memory`, and only for a new GTID with
+/// neither neighbour in the groups.
 pub(crate) fn reserve(groups: &mut Vec<Group>, gtid: Gtid) -> Result<Option<Place>, GtidFault>
     requires ascend { Ascend (sources groups.old.items) }
     ensures ascend { Ascend (sources groups.new.items) }
@@ -155,6 +156,8 @@ pub(crate) fn reserve(groups: &mut Vec<Group>, gtid: Gtid) -> Result<Option<Plac
     ensures there { IfOk result (λ place. IfNone place (is_listed (id gtid) groups.old.items
         ≡ true)) }
     ensures known { is_listed (id gtid) groups.old.items ≡ true → result ≡ Ok None }
+    ensures near { (n : ℕ) → IsNear n gtid.number
+        → is_listed (gtid.source, n) groups.old.items ≡ true → IsOk result }
     ensures err { IfErr result (λ fault. fault ≡ GtidFault.Memory) }
 {
     match find(groups, &gtid.source) {
@@ -162,7 +165,7 @@ pub(crate) fn reserve(groups: &mut Vec<Group>, gtid: Gtid) -> Result<Option<Plac
             let Some(place) = interval::place(&groups[at].intervals, gtid.number) else {
                 return Ok(None);
             };
-            groups[at].reserve()?;
+            groups[at].reserve(place, gtid.number)?;
             Ok(Some(Place::Within(at, place)))
         }
         Err(at) => {

@@ -90,7 +90,7 @@ impl GtidSet {
     }
 
     /// Looks a GTID up, and makes room for it if it is not in the set, so that adding it cannot fail. For a GTID in the
-    /// set it takes no memory.
+    /// set, or with a neighbour in it, it takes no memory.
     pub fn entry(self, gtid: Gtid) -> Entry
         ensures { IsLookUp self (id gtid) result }
     {
@@ -125,18 +125,23 @@ impl GtidSet {
         Ok(())
     }
 
-    /// Removes the GTIDs of the other set. The only error is `Memory`, which comes only if neither set is empty, and
-    /// leaves the set as it was.
+    /// Removes the GTIDs of the other set. The only error is `Memory`, which comes only if the other set is not empty and
+    /// lacks a GTID of this one, and leaves the set as it was.
     pub fn subtract(&mut self, other: &GtidSet) -> Result<(), GtidFault>
         ensures ok { OnOk result (self.new ≡ set.difference self.old other.now) }
         ensures err { OnErr result ((result ≡ Err GtidFault.Memory) × (self.new ≡ self.old)) }
         ensures none { (self.old ≡ set.empty) ⊎ (other.now ≡ set.empty) → IsOk result }
+        ensures subset { set.is_subset self.old other.now ≡ true → IsOk result }
     {
         if self.groups.len() == 0 {
             return Ok(());
         }
         if other.groups.len() == 0 {
             return Ok(()); // nothing is to be removed
+        }
+        if are_subset_in_one_pass(&self.groups, &other.groups) {
+            self.groups.clear();
+            return Ok(());
         }
         let alloc = *self.groups.allocator();
         self.groups = combine_groups(alloc, Combination::Difference, &self.groups, &other.groups)?;
