@@ -106,6 +106,10 @@ copied t kept d is parts = rw (is, parts.0, parts.1, parts.2) refl
 pub reported : (body : List EventValue) (current : OpenTransaction) (id : ℕ) (kept : Option (Rc TableDef Global)) → HasTaken body current → get nat_cmp current.maps id ≡ Some kept → map_of body id ≡ Some (said id kept)
 reported body current id kept keeps is = sym (keeps.maps id) ∙ ap (option_map (said id)) is
 
+-- a number of which nothing is kept has no table map
+pub unknown : (body : List EventValue) (current : OpenTransaction) (id : ℕ) → HasTaken body current → get nat_cmp current.maps id ≡ None → map_of body id ≡ None
+unknown body current id keeps is = sym (keeps.maps id) ∙ ap (option_map (said id)) is
+
 rows_say_nothing : (maps : BTreeMap ℕ (Option (Rc TableDef Global))) (body : List EventValue) (r : RowsValue) → ((q : ℕ) → option_map (said q) (get nat_cmp maps q) ≡ map_of body q) →
     (q : ℕ) → option_map (said q) (get nat_cmp maps q) ≡ map_of (body ++ rows r ∷ []) q
 rows_say_nothing maps body r before q = before q ∙ sym (map_of_more body (rows r) q)

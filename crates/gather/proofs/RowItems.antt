@@ -18,7 +18,7 @@ use Rattle.binlog.specs.declared.body.rows_event.RowsKind.TheVariants.{Write, Up
 use Rattle.binlog.specs.declared.body.table_map.TableDef.{TableDef}
 use Rattle.binlog.proofs.LawfulColumns.{lawful_kinds}
 use Rattle.gather.specs.Transaction.{ChangeValue, change_of}
-use Rattle.gather.specs.Fault.{IsRowsFault}
+use Rattle.gather.specs.Fault.{IsRowsFault, HasFirstPair, HasChange}
 use Rattle.gather.specs.OpenTransaction.{table_of, HasImages, AppendsChanges}
 use Rattle.gather.specs.declared.fault.GatherFault.TheVariants.{Event}
 use Rattle.gather.proofs.RowImages.{row_has_image}
@@ -161,6 +161,34 @@ walk_images kept r pair left before after w few short =
     (rows_images r.kind types early.0 (Err (record { kind = Truncated; at = r.bytes_at + early.1 }) ∷ []) rows.whole lawful small (omega (arith, sum, short)) rows.pairs_are (tt, tt)))
     w.items in
     at_front w.pairs pair left all
+
+-- ---- The first pair.
+
+starts_ok : (pairs : List PairValue) (pair : PairValue) (left : List Item) → (first : PairValue) × (rest : List Item) × (map Ok pairs ++ Ok pair ∷ left ≡ Ok first ∷ rest)
+starts_ok [] pair left = (pair, left, refl)
+starts_ok (x ∷ pairs) pair left = (x, map Ok pairs ++ Ok pair ∷ left, refl)
+
+whole_first : (kind : RowsKind) (types : List ColumnKind) (pairs : List PairValue) (bytes more : List ℕ) (first : PairValue) (rest : List Item) → AreRows kind types pairs bytes → Ok first ∷ rest ≡ map Ok pairs → HasFirstPair kind types (bytes ++ more)
+whole_first kind types [] bytes more first rest are same = absurd cc
+whole_first kind types (pair ∷ pairs) bytes more first rest (front, others, all, is, later) same =
+    record { pair = pair; first = front; rest = others ++ more; bytes_are = ap (λ x. x ++ more) all ∙ append_assoc front others more; is_pair = is }
+
+early_first : (kind : RowsKind) (types : List ColumnKind) (pairs : List PairValue) (bytes more : List ℕ) (first : PairValue) (rest : List Item) (fault : EventFault) → AreRows kind types pairs bytes →
+    Ok first ∷ rest ≡ map Ok pairs ++ Err fault ∷ [] → HasFirstPair kind types (bytes ++ more)
+early_first kind types [] bytes more first rest fault are same = absurd cc
+early_first kind types (pair ∷ pairs) bytes more first rest fault (front, others, all, is, later) same =
+    record { pair = pair; first = front; rest = others ++ more; bytes_are = ap (λ x. x ++ more) all ∙ append_assoc front others more; is_pair = is }
+
+pub walk_first : (kept : Rc TableDef Global) (r : RowsValue) (pair : PairValue) (left : List Item) (before after : List ChangeValue) → Walked kept r (Ok pair ∷ left) before after →
+    (id : ℕ) → HasChange (Some (Some (table_of id kept))) r
+walk_first kept r pair left before after w id =
+    let types = kinds kept.value.types.items in
+    let s = starts_ok w.pairs pair left in
+    let first : HasFirstPair r.kind types r.bytes = ⊎_elim
+    (λ whole. subst (HasFirstPair r.kind types) (append-nil r.bytes) (whole_first r.kind types whole.0 r.bytes [] s.0 s.1 whole.1 (sym s.2 ∙ whole.2)))
+    (λ early. subst (HasFirstPair r.kind types) (sym early.2.bytes_are) (early_first r.kind types early.0 early.2.whole early.2.rest s.0 s.1 _ early.2.pairs_are (sym s.2 ∙ early.3)))
+    w.items in
+    (kinds_length kept ∙ w.columns, first)
 
 -- ---- The number of columns.
 

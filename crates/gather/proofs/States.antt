@@ -1,11 +1,12 @@
 -- Rows events after a BEGIN.
-use Rattle.std.proofs.Common.{◌≡◌, ◌⊎◌, ℕ, true, not, List, [], ◌∷◌, Result, Ok, Err, IfErr, refl, ap, sym, ◌∙◌, subst, ⊎_elim, inl, inr}
+use Rattle.std.proofs.Common.{◌≡◌, ◌⊎◌, ℕ, true, not, List, [], ◌∷◌, None, Result, Ok, Err, IfErr, refl, ap, sym, ◌∙◌, subst, ⊎_elim, inl, inr}
 use Rattle.binlog.specs.Rows.{RowsValue}
-use Rattle.binlog.specs.Event.{EventValue, begin, gtid, rows}
+use Rattle.binlog.specs.Table.{TableValue}
+use Rattle.binlog.specs.Event.{EventValue, begin, gtid, table_map, other_map, rows}
 use Rattle.gather.specs.Transaction.{ChangeValue, map_of, AreChanges}
-use Rattle.gather.specs.Fault.{is_open, IsRowsFault}
+use Rattle.gather.specs.Fault.{is_open, IsRowsFault, HasChange}
 use Rattle.gather.specs.OpenTransaction.{HasTaken}
-use Rattle.gather.specs.State.{IsAt, BreaksOff, FaultsAt}
+use Rattle.gather.specs.State.{IsAt, BreaksOff, FaultsAt, AddsInside}
 use Rattle.gather.specs.declared.open_transaction.OpenTransaction.{OpenTransaction}
 use Rattle.gather.specs.declared.fault.GatherFault.{GatherFault}
 use Rattle.gather.specs.declared.fault.GatherFault.TheVariants.{Memory}
@@ -37,3 +38,21 @@ pub rows_break_off : {T : Type 0} (current : OpenTransaction) (r : RowsValue) (s
     ((body : List EventValue) → HasTaken body current → IfErr result (λ fault. (fault ≡ Memory) ⊎ IsRowsFault (map_of body r.id) r fault)) → IfErr result (FaultsAt (rows r) state)
 rows_break_off current r state (Ok x) is faults = tt
 rows_break_off current r state (Err fault) is faults = subst (λ p. FaultsAt (rows r) p fault) (sym is) (breaks_off current r fault faults)
+
+-- ---- What is added.
+
+pub map_adds : (current : OpenTransaction) (t : TableValue) (state : State) → state ≡ Inside current → AddsInside (table_map t) state
+map_adds current t state is = ((current, is), λ block at. tt)
+
+pub other_adds : (current : OpenTransaction) (id : ℕ) (state : State) → state ≡ Inside current → ((body : List EventValue) → HasTaken body current → map_of body id ≡ None) → AddsInside (other_map id) state
+other_adds current id state is new = ((current, is), λ block at. added block (subst (IsAt block) is at))
+  where
+    added : (block : List EventValue) → IsAt block (Inside current) → map_of block id ≡ None
+    added block (body, block_is, keeps) = ap (λ b. map_of b id) block_is ∙ map_of_body current.gtid.source current.gtid.number body id ∙ new body keeps
+
+pub rows_add : (current : OpenTransaction) (r : RowsValue) (state : State) → state ≡ Inside current → ((body : List EventValue) → HasTaken body current → HasChange (map_of body r.id) r) → AddsInside (rows r) state
+rows_add current r state is change = ((current, is), λ block at. added block (subst (IsAt block) is at))
+  where
+    added : (block : List EventValue) → IsAt block (Inside current) → HasChange (map_of block r.id) r
+    added block (body, block_is, keeps) =
+        subst (λ m. HasChange m r) (sym (ap (λ b. map_of b r.id) block_is ∙ map_of_body current.gtid.source current.gtid.number body r.id)) (change body keeps)

@@ -12,7 +12,7 @@ use Rattle.binlog.specs.EventView.{event_value}
 use Rattle.binlog.specs.declared.event.Event.{Event}
 use Rattle.binlog.specs.declared.event.Event.TheVariants.{Rotate, Stop}
 use Rattle.gather.specs.View.{delivered}
-use Rattle.gather.specs.State.{IsAt, StepsTo, FaultsAt, IsInside}
+use Rattle.gather.specs.State.{IsAt, StepsTo, FaultsAt, AddsInside}
 use Rattle.gather.specs.Standing.{Brings}
 use Rattle.gather.specs.declared.transaction.Delivery.{Delivery}
 use Rattle.gather.specs.declared.fault.GatherFault.{GatherFault}
@@ -198,11 +198,11 @@ refuses (Err fault) formatted before e is faults events ds b = fault_from events
 
 -- Memory runs out only at an event of an open transaction.
 pub keeps : {T : Type 0} (result : Result T GatherFault) (formatted : Bool) (state : State) (e : EventValue) → is_kept e ≡ true → ((block : List EventValue) → is_in_place block e ≡ is_open block) → formatted ≡ true →
-    IfErr result (λ fault. fault ≡ Memory → IsInside state) →
+    IfErr result (λ fault. fault ≡ Memory → AddsInside e state) →
     (events : List EventValue) (ds : List DeliveryValue) → Brings events ds formatted state → IfErr result (λ fault. fault ≡ Memory → IsKept events e)
 keeps (Ok x) formatted state e kept place is memory events ds b = memory
 keeps (Err fault) formatted state e kept place is memory events ds b = λ wanted.
-    let inside = memory wanted in
+    let inside = (memory wanted).0 in
     let at : IsAt (last_block events) (Inside inside.0) = subst (IsAt (last_block events)) inside.1 b.at in
     record {
       kept = kept;
@@ -210,6 +210,7 @@ keeps (Err fault) formatted state e kept place is memory events ds b = λ wanted
       in_place = place (last_block events)
           ∙ ap is_open at.1
           ∙ open_block inside.0.gtid.source inside.0.gtid.number at.0 inside.0.changes at.2.changes;
+      adds = (memory wanted).1 (last_block events) b.at;
     }
 
 -- ---- Format descriptions.

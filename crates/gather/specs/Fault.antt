@@ -4,9 +4,11 @@ use Rattle.std.specs.List.{AllByRecursion, list_any}
 use Rattle.binlog.specs.EventType as event_type
 use Rattle.binlog.specs.Filter.{Names}
 use Rattle.binlog.specs.Table.{TableValue}
-use Rattle.binlog.specs.Rows.{RowsValue, PairValue, EndsEarly, rows_code}
+use Rattle.binlog.specs.Rows.{RowsValue, PairValue, IsPair, EndsEarly, rows_code}
 use Rattle.binlog.specs.Event.{EventValue, format, begin, commit, gtid, table_map, other_map, rows, xid, IsEvent}
+use Rattle.binlog.specs.declared.column.kind.ColumnKind.{ColumnKind}
 use Rattle.binlog.specs.declared.fault.EventFaultKind.TheVariants.{Columns, Truncated}
+use Rattle.binlog.specs.declared.body.rows_event.RowsKind.{RowsKind}
 use Rattle.gather.specs.Transaction.{is_neutral, is_mark, is_end, map_of}
 use Rattle.gather.specs.declared.fault.GatherFault.{GatherFault}
 use Rattle.gather.specs.declared.fault.GatherFault.TheVariants.{NoFormat, Misplaced, UnknownTable, Event}
@@ -83,11 +85,34 @@ is_kept (other_map id) = true
 is_kept (rows r) = true
 is_kept _ = false
 
+-- The bytes begin with a pair of rows.
+pub record HasFirstPair (kind : RowsKind) (types : List ColumnKind) (bytes : List ℕ) : Type 0 where
+  pub pair : PairValue
+  pub first : List ℕ
+  pub rest : List ℕ
+  pub bytes_are : bytes ≡ first ++ rest
+  pub is_pair : IsPair kind types pair first
+
+-- The rows event has a change, from what is known of its table's number: the table is followed and has as many columns
+-- as the event, whose bytes begin with a pair of rows.
+abbrev pub HasChange : Option (Option TableValue) → RowsValue → Type 0
+HasChange (Some (Some t)) r = (length t.columns ≡ r.columns) × HasFirstPair r.kind t.columns r.bytes
+HasChange _ r = ⊥
+
+-- The event adds to what is kept of the block: a table map of a table that is followed; one of another table, whose
+-- number is new in the block; or a rows event that has a change.
+abbrev pub AddsTo : List EventValue → EventValue → Type 0
+AddsTo block (table_map t) = Unit {0}
+AddsTo block (other_map id) = map_of block id ≡ None
+AddsTo block (rows r) = HasChange (map_of block r.id) r
+AddsTo block _ = ⊥
+
 -- After these events something is kept of the next one, which is in place.
 pub record IsKept (events : List EventValue) (e : EventValue) : Type 0 where
   pub kept : is_kept e ≡ true
   pub formatted : has_format events ≡ true
   pub in_place : is_in_place (last_block events) e ≡ true
+  pub adds : AddsTo (last_block events) e
 
 -- ---- Faults.
 

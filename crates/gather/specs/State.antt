@@ -4,7 +4,7 @@ use Rattle.std.specs.Prelude.{◌≡◌, ◌⊎◌, true, false, List, [], ◌�
 use Rattle.binlog.specs.Rows.{RowsValue}
 use Rattle.binlog.specs.Event.{EventValue, begin, gtid, rows}
 use Rattle.gather.specs.Transaction.{DeliveryValue, map_of, IsAnnounced, IsOpen, IsBlock}
-use Rattle.gather.specs.Fault.{is_announced, is_open, is_in_place, type_of, IsRowsFault}
+use Rattle.gather.specs.Fault.{is_announced, is_open, is_in_place, type_of, AddsTo, IsRowsFault}
 use Rattle.gather.specs.OpenTransaction.{HasTaken}
 use Rattle.gather.specs.declared.fault.GatherFault.{GatherFault}
 use Rattle.gather.specs.declared.fault.GatherFault.TheVariants.{Misplaced, Memory}
@@ -31,6 +31,10 @@ StepsTo e before after ds = (block : List EventValue) → IsAt block before → 
 -- a transaction is open
 abbrev pub IsInside : State → Type 0
 IsInside state = (current : OpenTransaction) × (state ≡ Inside current)
+
+-- A transaction is open, and the event adds to what is kept of it.
+abbrev pub AddsInside : EventValue → State → Type 0
+AddsInside e state = IsInside state × ((block : List EventValue) → IsAt block state → AddsTo block e)
 
 -- The event is misplaced, or a rows event that cannot be read.
 abbrev pub BreaksOff : List EventValue → EventValue → GatherFault → Type 0

@@ -52,8 +52,9 @@ impl Gatherer {
     /// Takes the next event, and returns the transaction that it ends, if it ends one.
     ///
     /// An event that may not follow those before it is reported as `NoFormat`, `Misplaced`, `UnknownTable` or `Event`,
-    /// whichever applies first in this order; `Memory` if memory runs out, only at a table map or a rows event that is in
-    /// place. After a fault each call answers `Ended`.
+    /// whichever applies first in this order; `Memory` if memory runs out, only at an event in place of which something is
+    /// kept: a table map of a table that is followed, the first with its number of another table, or a rows event that
+    /// begins with a row of a table that is followed. After a fault each call answers `Ended`.
     pub fn event(&mut self, event: &Event<'_>) -> Result<Option<Delivery>, GatherFault>
         ensures taken { (events : List EventValue) (ds : List DeliveryValue)
             → HasGathered events ds self.old → IfOk result

@@ -19,12 +19,12 @@ pub(crate) struct OpenTransaction {
 }
 
 impl OpenTransaction {
-    ghost use Rattle.std.specs.Prelude.{◌≡◌, ◌⊎◌, [], ◌∷◌, ◌++◌, List, IfErr, OnOk, OnErr, Err};
+    ghost use Rattle.std.specs.Prelude.{◌≡◌, ◌⊎◌, [], ◌∷◌, ◌++◌, List, None, IfErr, OnOk, OnErr, Err};
     ghost use Rattle.binlog.specs.Event.{EventValue, table_map, other_map, rows};
     ghost use Rattle.binlog.specs.RowsView.{rows_value};
     ghost use Rattle.binlog.specs.TableView.{table_value};
     ghost use Rattle.gather.specs.Transaction.{map_of};
-    ghost use Rattle.gather.specs.Fault.{IsRowsFault};
+    ghost use Rattle.gather.specs.Fault.{IsRowsFault, HasChange};
     ghost use Rattle.gather.specs.OpenTransaction.{HasTaken};
 
     /// A transaction whose BEGIN has just come.
@@ -54,19 +54,23 @@ impl OpenTransaction {
         Ok(())
     }
 
-    /// Takes a table map of a table that is not followed. The only error is `Memory`.
+    /// Takes a table map of a table that is not followed. The only error is `Memory`, which comes only if no table map
+    /// before it has its number.
     pub(crate) fn take_other(&mut self, id: u64) -> Result<(), GatherFault>
         ensures gtid { self.new.gtid ≡ self.old.gtid }
         ensures keeps { (body : List EventValue) → HasTaken body self.old
             → OnOk result (HasTaken (body ++ other_map id ∷ []) self.new) }
         ensures err { OnErr result (result ≡ Err GatherFault.Memory) }
+        ensures memory { (body : List EventValue) → HasTaken body self.old
+            → OnErr result (map_of body id ≡ None) }
     {
         self.maps.insert(id, None)?;
         Ok(())
     }
 
     /// Takes a rows event: appends its changes, whose table is that of the last table map with its number. The faults
-    /// are `UnknownTable`, `Event` and `Memory`.
+    /// are `UnknownTable`, `Event` and `Memory`, which comes only at a change: if the table is followed, and the event
+    /// begins with a row of it.
     pub(crate) fn take_rows(&mut self, event: &RowsEvent<'_>) -> Result<(), GatherFault>
         ensures gtid { self.new.gtid ≡ self.old.gtid }
         ensures keeps { (body : List EventValue) → HasTaken body self.old
@@ -74,6 +78,9 @@ impl OpenTransaction {
         ensures fault { (body : List EventValue) → HasTaken body self.old
             → IfErr result (λ fault. (fault ≡ GatherFault.Memory)
             ⊎ IsRowsFault (map_of body event.now.id) (rows_value event.now) fault) }
+        ensures memory { (body : List EventValue) → HasTaken body self.old
+            → IfErr result (λ fault. fault ≡ GatherFault.Memory
+            → HasChange (map_of body event.now.id) (rows_value event.now)) }
     {
         match self.maps.get(&event.id) {
             None => Err(GatherFault::UnknownTable(event.id)),

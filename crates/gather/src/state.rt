@@ -7,7 +7,7 @@ ghost use Rattle.binlog.specs.TableView.{table_value};
 ghost use Rattle.gather.specs.Transaction.{is_end};
 ghost use Rattle.gather.specs.Fault.{type_of};
 ghost use Rattle.gather.specs.View.{delivered};
-ghost use Rattle.gather.specs.State.{StepsTo, FaultsAt, IsInside};
+ghost use Rattle.gather.specs.State.{StepsTo, FaultsAt, AddsInside};
 
 use crate::fault::GatherFault;
 use crate::open_transaction::OpenTransaction;
@@ -53,7 +53,8 @@ pub(crate) fn take_map(
     ensures taken { IfOk result (λ delivery. StepsTo
         (table_map (table_value map.now)) state.old state.new (delivered delivery)) }
     ensures fault { IfErr result (FaultsAt (table_map (table_value map.now)) state.old) }
-    ensures memory { IfErr result (λ fault. fault ≡ GatherFault.Memory → IsInside state.old) }
+    ensures memory { IfErr result (λ fault. fault ≡ GatherFault.Memory
+        → AddsInside (table_map (table_value map.now)) state.old) }
 {
     match state {
         State::Inside(current) => {
@@ -69,7 +70,8 @@ pub(crate) fn take_other(state: &mut State, id: u64) -> Result<Option<Delivery>,
     ensures taken { IfOk result (λ delivery. StepsTo (other_map id) state.old state.new
         (delivered delivery)) }
     ensures fault { IfErr result (FaultsAt (other_map id) state.old) }
-    ensures memory { IfErr result (λ fault. fault ≡ GatherFault.Memory → IsInside state.old) }
+    ensures memory { IfErr result (λ fault. fault ≡ GatherFault.Memory
+        → AddsInside (other_map id) state.old) }
 {
     match state {
         State::Inside(current) => {
@@ -88,7 +90,8 @@ pub(crate) fn take_rows(
     ensures taken { IfOk result (λ delivery. StepsTo
         (rows (rows_value event.now)) state.old state.new (delivered delivery)) }
     ensures fault { IfErr result (FaultsAt (rows (rows_value event.now)) state.old) }
-    ensures memory { IfErr result (λ fault. fault ≡ GatherFault.Memory → IsInside state.old) }
+    ensures memory { IfErr result (λ fault. fault ≡ GatherFault.Memory
+        → AddsInside (rows (rows_value event.now)) state.old) }
 {
     match state {
         State::Inside(current) => {

@@ -34,3 +34,4 @@ pub mod Touching
 pub mod Around
 pub mod Roomy
 pub mod OneGtid
+pub mod OnePass

@@ -146,6 +146,16 @@ union_none left right none = set.same_set id_cmp_total id_cmp-same left (set.uni
     ∙ ap (λ b. set.contains left q || b) (ap (λ s. set.contains s q) none ∙ set.contains-empty id_cmp q)
     ∙ or-false (set.contains left q)))
 
+-- what is there already
+pub union_subset : (left right : Ids) → set.is_subset right left ≡ true → left ≡ set.union left right
+union_subset left right subset = set.same_set id_cmp_total id_cmp-same left (set.union left right) (λ q.
+    there (set.contains left q) (set.contains right q) (set.is_subset-contains id_cmp_total right left subset q) ∙ sym (set.contains-union id_cmp_total left right q))
+  where
+    there : (a b : Bool) → (b ≡ true → a ≡ true) → a ≡ (a || b)
+    there true b on = refl
+    there false true on = on refl
+    there false false on = refl
+
 pub difference_none : (left right : Ids) → (left ≡ set.empty) ⊎ (right ≡ set.empty) → left ≡ set.difference left right
 difference_none left right none = set.same_set id_cmp_total id_cmp-same left (set.difference left right) (λ q.
     sym (set.contains-difference id_cmp_total left right q ∙ same q none))
@@ -156,6 +166,17 @@ difference_none left right none = set.same_set id_cmp_total id_cmp-same left (se
     same : (q : Id) → (left ≡ set.empty) ⊎ (right ≡ set.empty) → (set.contains left q && not (set.contains right q)) ≡ set.contains left q
     same q (inl e) = ap (λ b. b && not (set.contains right q)) (empty q e) ∙ sym (empty q e)
     same q (inr e) = ap (λ b. set.contains left q && not b) (empty q e) ∙ and-true (set.contains left q)
+
+-- all is removed
+pub difference_subset : (left right : Ids) → set.is_subset left right ≡ true → set.empty ≡ set.difference left right
+difference_subset left right subset = set.same_set id_cmp_total id_cmp-same set.empty (set.difference left right) (λ q.
+    set.contains-empty id_cmp q
+    ∙ gone (set.contains left q) (set.contains right q) (set.is_subset-contains id_cmp_total left right subset q)
+    ∙ sym (set.contains-difference id_cmp_total left right q))
+  where
+    gone : (a b : Bool) → (a ≡ true → b ≡ true) → false ≡ (a && not b)
+    gone true b on = ap not (sym (on refl))
+    gone false b on = refl
 
 -- a set with nothing is the set
 pub is_copy : (x z : List Group) (ids : Ids) → ids_of x ≡ ids → ((q : Id) → is_listed q z ≡ keeps Union (is_listed q x) (is_listed q [])) → ids_of z ≡ ids

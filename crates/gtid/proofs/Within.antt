@@ -11,7 +11,7 @@ use Rattle.std.proofs.lemmas.List.{take-append-drop, take_all, set_split, get_or
 use Rattle.std.specs.List.Sorted.{IsNonDecreasingBy, IsPartitionPoint}
 use Rattle.std.specs.Option.{option_copied}
 use Rattle.std.specs.List.{AllWithin, HoldsAt, insert, remove}
-use Rattle.gtid.specs.Interval.{is_within, has, AreLeast, GoesAt, IsNear}
+use Rattle.gtid.specs.Interval.{is_within, has, AreLeast, GoesAt, IsNear, HasNear}
 use Rattle.gtid.specs.declared.interval.Interval.{Interval}
 use Rattle.gtid.proofs.Disjunctions.{or_swap}
 use Rattle.gtid.proofs.Combined.{has-append, last_end}
@@ -24,20 +24,20 @@ least-with : (end : ℕ) (xs ys zs : List Interval) → AreLeast end (xs ++ ys) 
 least-with end [] ys zs least new = new
 least-with end (x ∷ xs) ys zs (gap, some, small, least) new = (gap, some, small, least-with x.hi xs ys zs least new)
 
-is_below : (n : ℕ) (i : Interval) → n < i.lo → is_within n i ≡ false
+pub is_below : (n : ℕ) (i : Interval) → n < i.lo → is_within n i ≡ false
 is_below n i h = grind (arith, nat_tests)
 
-is_above : (n : ℕ) (i : Interval) → i.hi ≤ n → is_within n i ≡ false
+pub is_above : (n : ℕ) (i : Interval) → i.hi ≤ n → is_within n i ≡ false
 is_above n i h = grind (arith, nat_tests)
 
-is_in : (n : ℕ) (i : Interval) → i.lo ≤ n → n < i.hi → is_within n i ≡ true
+pub is_in : (n : ℕ) (i : Interval) → i.lo ≤ n → n < i.hi → is_within n i ≡ true
 is_in n i h k = grind (arith, nat_tests)
 
-none : {a b : Bool} → a ≡ false → b ≡ false → (a || b) ≡ false
+pub none : {a b : Bool} → a ≡ false → b ≡ false → (a || b) ≡ false
 none p q = cc (p, q)
 
 -- no number up to the end of what comes before
-below_least : (end : ℕ) (intervals : List Interval) (n : ℕ) → AreLeast end intervals → n ≤ end → has intervals n ≡ false
+pub below_least : (end : ℕ) (intervals : List Interval) (n : ℕ) → AreLeast end intervals → n ≤ end → has intervals n ≡ false
 below_least end [] n least le = refl
 below_least end (i ∷ intervals) n (gap, some, small, least) le = rw (is_below n i (omega arith)) (below_least i.hi intervals n least (omega arith))
 
@@ -307,3 +307,18 @@ goes_before intervals at n x least goes within is not_below not_above d _ =
     let before : n < x.hi = omega (arith, goes.after x within, ap (λ i. i.hi) is, not_below) in
     let later = leb-false x.lo n (has_at intervals at n x least (weaker intervals at n goes.before) within is before ∙ goes.new) in
     omega (arith, later, not_above, ap (λ i. i.lo) (is ∙ get_or_default intervals at x d within))
+
+-- the numbers beside one at which an interval ends, or before which it begins
+pub near_below : (intervals : List Interval) (at number : ℕ) (x : Interval) → AreLeast 0 intervals → at < length intervals → x ≡ get_or intervals at x → x.hi ≡ number → HasNear number intervals
+near_below intervals at number x least within is touch =
+    let e = each 0 intervals at x least within in
+    let some : x.lo < x.hi = omega (arith, e, ap (λ i. i.lo) is, ap (λ i. i.hi) is) in
+    let inside : is_within (number - 1) x ≡ true = is_in (number - 1) x (omega arith) (omega arith) in
+    record { near = number - 1; beside = inl (omega arith); there = list_any_at (is_within (number - 1)) intervals at x within (subst (λ i. is_within (number - 1) i ≡ true) is inside) }
+
+pub near_above : (intervals : List Interval) (at number : ℕ) (x : Interval) → AreLeast 0 intervals → at < length intervals → x ≡ get_or intervals at x → x.lo ≡ number + 1 → HasNear number intervals
+near_above intervals at number x least within is touch =
+    let e = each 0 intervals at x least within in
+    let some : x.lo < x.hi = omega (arith, e, ap (λ i. i.lo) is, ap (λ i. i.hi) is) in
+    let inside : is_within (number + 1) x ≡ true = is_in (number + 1) x (omega arith) (omega arith) in
+    record { near = number + 1; beside = inr refl; there = list_any_at (is_within (number + 1)) intervals at x within (subst (λ i. is_within (number + 1) i ≡ true) is inside) }

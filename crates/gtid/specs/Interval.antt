@@ -1,6 +1,6 @@
 -- The numbers of one source as intervals. MySQL Reference Manual, "GTID Format and Storage" (GTID sets); MySQL Source
 -- Documentation, Replication Protocol, COM_BINLOG_DUMP_GTID, whose intervals end one past their last number.
-use Rattle.std.specs.Prelude.{◌≡◌, ℕ, ◌+◌, ◌-◌, ◌⊎◌, ◌<◌, ◌≤◌, ◌^◌, ◌&&◌, Bool, false, List, [], ◌∷◌, length, slice_index_or, nat_le, nat_lt}
+use Rattle.std.specs.Prelude.{◌≡◌, ℕ, ◌+◌, ◌-◌, ◌⊎◌, ◌<◌, ◌≤◌, ◌^◌, ◌&&◌, Bool, true, false, List, [], ◌∷◌, length, slice_index_or, nat_le, nat_lt}
 use Rattle.std.specs.List.{list_any, AllWithin}
 use Rattle.std.proofs.Props.{props}
 use Rattle.gtid.specs.declared.interval.Interval.{Interval}
@@ -22,6 +22,16 @@ AreLeast end (i ∷ intervals) = (end < i.lo) × (i.lo < i.hi) × (i.hi < 2 ^ 63
 -- The first number is just below the second one, or just above.
 abbrev pub IsNear : ℕ → ℕ → Type 0
 IsNear near number = (near + 1 ≡ number) ⊎ (near ≡ number + 1)
+
+-- One of the intervals has a number just below this one, or just above.
+pub record HasNear (number : ℕ) (intervals : List Interval) : Type 0 where
+  pub near : ℕ
+  pub beside : IsNear near number
+  pub there : has intervals near ≡ true
+
+-- Adding the number to intervals of this length and capacity takes no memory.
+abbrev pub TakesNoMemory : ℕ → ℕ → ℕ → List Interval → Type 0
+TakesNoMemory number len capacity intervals = (len < capacity) ⊎ HasNear number intervals
 
 -- The last interval's hi is the number or above.
 abbrev pub LastReaches : List Interval → ℕ → Type 0

@@ -1,18 +1,22 @@
 -- Private: room for one more GTID.
 use Rattle.std.specs.Prelude.{◌≡◌, ℕ, ◌<◌, nat_eq, length, List, slice_index_or, vec_len, vec_capacity}
-use Rattle.gtid.specs.Interval.{has, GoesAt}
+use Rattle.gtid.specs.Interval.{has, GoesAt, TakesNoMemory}
 use Rattle.gtid.specs.Group.{IsGroupAt, IsGap}
 use Rattle.gtid.specs.declared.identifier.Gtid.{Gtid}
 use Rattle.gtid.specs.declared.group.Group.{Group}
 use Rattle.gtid.specs.declared.groups.Place.{Place}
 use Rattle.gtid.specs.declared.groups.Place.TheVariants.{Within, Before}
 
--- The group of the GTID's source is at this index, its number goes to this place in it, and one more interval in it
--- needs no memory.
+-- Adding the number to the group takes no memory.
+abbrev pub TakesNoMemoryIn : ℕ → Group → Type 0
+TakesNoMemoryIn number g = TakesNoMemory number (vec_len g.intervals) (vec_capacity g.intervals) g.intervals.items
+
+-- The group of the GTID's source is at this index, its number goes to this place in it, and adding it there needs no
+-- memory.
 pub record FitsWithin (gtid : Gtid) (groups : List Group) (at place : ℕ) : Type 0 where
   pub there : IsGroupAt gtid.source groups at
   pub goes : (d : Group) → GoesAt (slice_index_or groups at d).intervals.items gtid.number place
-  pub room : (d : Group) → vec_len (slice_index_or groups at d).intervals < vec_capacity (slice_index_or groups at d).intervals
+  pub room : (d : Group) → TakesNoMemoryIn gtid.number (slice_index_or groups at d)
 
 -- The source has no group, `group` is that of the GTID alone, and one more group needs no memory.
 pub record FitsBefore (gtid : Gtid) (groups : List Group) (capacity at : ℕ) (group : Group) : Type 0 where

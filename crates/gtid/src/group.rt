@@ -1,7 +1,7 @@
 //! The GTIDs of one source.
 
 ghost use Rattle.std.specs.Prelude.{◌≡◌, ◌≢◌, ℕ, length, ◌≤◌, ◌<◌, ◌-◌, ◌^◌, ◌||◌, true, false, not, nat_eq, [], vec_len, vec_capacity, IsOk, IfOk, IfErr, OnOk, OnErr, Ok, Err};
-ghost use Rattle.gtid.specs.Interval.{has, AreLeast, AreLeast-prop, GoesAt, IsNear};
+ghost use Rattle.gtid.specs.Interval.{has, AreLeast, AreLeast-prop, GoesAt, IsNear, TakesNoMemory};
 
 use crate::fault::GtidFault;
 use crate::identifier::Gtid;
@@ -49,11 +49,12 @@ impl Group {
         interval::insert(&mut self.intervals, number)
     }
 
-    /// Adds a number at the place to which it goes, for which there is room.
+    /// Adds a number at the place to which it goes, which takes no memory.
     pub(crate) fn insert_at(&mut self, at: usize, number: u64)
         requires number { (1 ≤ number) × (number ≤ 2 ^ 63 - 2) }
         requires goes { GoesAt self.old.intervals.items number at }
-        requires room { vec_len self.old.intervals < vec_capacity self.old.intervals }
+        requires room { TakesNoMemory number (vec_len self.old.intervals)
+            (vec_capacity self.old.intervals) self.old.intervals.items }
         ensures source { self.new.source ≡ self.old.source }
         ensures adds { (n : ℕ) → has self.new.intervals.items n
             ≡ (nat_eq n number || has self.old.intervals.items n) }
@@ -61,13 +62,22 @@ impl Group {
         let _inserted = interval::insert_at(&mut self.intervals, at, number);
     }
 
-    /// Makes room for one more interval. The only error is `Memory`.
-    pub(crate) fn reserve(&mut self) -> Result<(), GtidFault>
+    /// Makes room for a number that goes to this place. The only error is `Memory`, which comes only for a number with
+    /// neither neighbour in the group.
+    pub(crate) fn reserve(&mut self, at: usize, number: u64) -> Result<(), GtidFault>
+        requires number { (1 ≤ number) × (number ≤ 2 ^ 63 - 2) }
+        requires goes { GoesAt self.old.intervals.items number at }
         ensures source { self.new.source ≡ self.old.source }
         ensures same { self.new.intervals.items ≡ self.old.intervals.items }
-        ensures ok { OnOk result (vec_len self.new.intervals < vec_capacity self.new.intervals) }
+        ensures ok { OnOk result (TakesNoMemory number (vec_len self.new.intervals)
+            (vec_capacity self.new.intervals) self.new.intervals.items) }
         ensures err { IfErr result (λ fault. fault ≡ GtidFault.Memory) }
+        ensures near { (n : ℕ) → IsNear n number → has self.old.intervals.items n ≡ true
+            → IsOk result }
     {
+        if interval::touches(&self.intervals, at, number) {
+            return Ok(());
+        }
         self.intervals.reserve(1)?;
         Ok(())
     }

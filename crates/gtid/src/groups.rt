@@ -13,7 +13,7 @@ use crate::fault::GtidFault;
 use crate::group::Group;
 use crate::identifier::Gtid;
 use crate::interval;
-use crate::interval::{Interval, is_subset};
+use crate::interval::{Interval, is_subset, is_subset_in_one_pass};
 use std::alloc::Global;
 use std::cmp::Ordering;
 
@@ -94,6 +94,26 @@ pub(crate) fn are_subset(groups: &[Group], of: &[Group]) -> bool
     true
 }
 
+/// Does what `are_subset` does in one pass over both, which takes linear time however many there are of either.
+pub(crate) fn are_subset_in_one_pass(groups: &[Group], of: &[Group]) -> bool
+    requires groups { Ascend (sources groups.now) }
+    requires of { Ascend (sources of.now) }
+    ensures { IsTrue result ↔ ((q : Id) → is_listed q groups.now ≡ true
+        → is_listed q of.now ≡ true) }
+{
+    let (mut left, mut right) = (groups, of);
+    while let Some(source) = lowest(left, right) {
+        let (of_left, left_rest) = split(left, &source);
+        let (of_right, right_rest) = split(right, &source);
+        if !is_subset_in_one_pass(of_left, of_right) {
+            return false;
+        }
+        left = left_rest;
+        right = right_rest;
+    }
+    true
+}
+
 /// Adds a GTID, and returns whether it is new. The only error is `Memory`, and only for a new GTID.
 pub(crate) fn insert(groups: &mut Vec<Group>, gtid: Gtid) -> Result<bool, GtidFault>
     requires ascend { Ascend (sources groups.old.items) }
@@ -125,7 +145,8 @@ pub(crate) enum Place {
     Before(usize, Group),
 }
 
-/// Makes room for a GTID, unless it is in one of the groups. The only error is `Memory`, and only for a new GTID.
+/// Makes room for a GTID, unless it is in one of the groups. The only error is `Memory`, and only for a new GTID with
+/// neither neighbour in the groups.
 pub(crate) fn reserve(groups: &mut Vec<Group>, gtid: Gtid) -> Result<Option<Place>, GtidFault>
     requires ascend { Ascend (sources groups.old.items) }
     ensures ascend { Ascend (sources groups.new.items) }
@@ -135,6 +156,8 @@ pub(crate) fn reserve(groups: &mut Vec<Group>, gtid: Gtid) -> Result<Option<Plac
     ensures there { IfOk result (λ place. IfNone place (is_listed (id gtid) groups.old.items
         ≡ true)) }
     ensures known { is_listed (id gtid) groups.old.items ≡ true → result ≡ Ok None }
+    ensures near { (n : ℕ) → IsNear n gtid.number
+        → is_listed (gtid.source, n) groups.old.items ≡ true → IsOk result }
     ensures err { IfErr result (λ fault. fault ≡ GtidFault.Memory) }
 {
     match find(groups, &gtid.source) {
@@ -142,7 +165,7 @@ pub(crate) fn reserve(groups: &mut Vec<Group>, gtid: Gtid) -> Result<Option<Plac
             let Some(place) = interval::place(&groups[at].intervals, gtid.number) else {
                 return Ok(None);
             };
-            groups[at].reserve()?;
+            groups[at].reserve(place, gtid.number)?;
             Ok(Some(Place::Within(at, place)))
         }
         Err(at) => {

@@ -2,7 +2,7 @@
 
 ghost use Rattle.std.specs.Prelude.{◌≡◌, ◌≢◌, ℕ, ◌≤◌, ◌<◌, ◌-◌, ◌^◌, ◌||◌, ◌↔◌, true, false, not, nat_eq, length, slice_index_or, vec_len, vec_capacity, None, IsTrue, IsOk, IfSome, IfNone, IfOk, OnOk, OnErr, Ok, Err};
 ghost use Rattle.std.specs.List.{AllWithin};
-ghost use Rattle.gtid.specs.Interval.{has, is_within, AreLeast, LastReaches, GoesAt, IsNear};
+ghost use Rattle.gtid.specs.Interval.{has, is_within, AreLeast, LastReaches, GoesAt, IsNear, HasNear};
 ghost use Rattle.gtid.specs.Beside.{Touches};
 ghost use Rattle.gtid.specs.declared.interval.Interval.{Interval};
 
@@ -48,6 +48,30 @@ pub(crate) fn is_subset(intervals: &[Interval], of: &[Interval]) -> bool
         if !lies_in(*interval, of) {
             return false;
         }
+    }
+    true
+}
+
+/// Does what `is_subset` does in one pass over both, which takes linear time however many there are of either.
+pub(crate) fn is_subset_in_one_pass(intervals: &[Interval], of: &[Interval]) -> bool
+    requires intervals { AreLeast 0 intervals.now }
+    requires of { AreLeast 0 of.now }
+    ensures { IsTrue result ↔ ((n : ℕ) → has intervals.now n ≡ true → has of.now n ≡ true) }
+{
+    let mut parts = intervals;
+    let mut left = of;
+    while let [part, rest @ ..] = parts {
+        let [first, others @ ..] = left else {
+            return false;
+        };
+        if first.hi < part.hi {
+            left = others;
+            continue;
+        }
+        if part.lo < first.lo {
+            return false;
+        }
+        parts = rest;
     }
     true
 }
@@ -108,6 +132,23 @@ pub(crate) fn beside(
         return (None, Some(first));
     }
     (None, None)
+}
+
+/// Whether a number that goes to this place touches an interval there, so that adding it takes no memory.
+pub(crate) fn touches(intervals: &[Interval], at: usize, number: u64) -> bool
+    requires least { AreLeast 0 intervals.now }
+    requires number { (1 ≤ number) × (number ≤ 2 ^ 63 - 2) }
+    requires goes { GoesAt intervals.now number at }
+    ensures beside { IsTrue result → HasNear number intervals.now }
+    ensures apart { result ≡ false → (n : ℕ) → IsNear n number → has intervals.now n ≡ false }
+{
+    let Some(first) = intervals.get(at).copied() else {
+        return false;
+    };
+    if first.hi == number {
+        return true;
+    }
+    first.lo == number + 1
 }
 
 /// The interval at an index, if it begins at the number.

@@ -20,7 +20,7 @@ pub enum Entry {
     New(Reserved),
     /// The GTID is in the set, which is as it was.
     Known(GtidSet),
-    /// The GTID is not in the set, which is as it was, since an allocation was refused.
+    /// The GTID is not in the set, and neither is a neighbour of it. The set is as it was, since an allocation was refused.
     NoRoom(GtidSet),
 }
 

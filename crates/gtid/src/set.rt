@@ -1,6 +1,6 @@
 //! Sets of GTIDs.
 
-ghost use Rattle.std.specs.Prelude.{◌≡◌, ℕ, ◌≤◌, ◌⊎◌, true, false, not, length, take, string_bytes, MatchResult, IfOk, OnOk, IfErr, OnErr, Ok, Err, List, None, IfSome, IsOk, vec_len, vec_capacity, string_len, string_capacity};
+ghost use Rattle.std.specs.Prelude.{◌≡◌, ℕ, ◌<◌, ◌≤◌, ◌⊎◌, true, false, not, length, take, string_bytes, MatchResult, IfOk, OnOk, IfErr, OnErr, Ok, Err, List, None, IfSome, IsOk, vec_len, vec_capacity, string_len, string_capacity};
 ghost use Rattle.std.specs.FinSet as set;
 ghost use Rattle.gtid.specs.Identifier.{Ids, id};
 ghost use Rattle.std.specs.List.{AllByRecursion};
@@ -17,7 +17,9 @@ use crate::fault::GtidFault;
 use crate::gathering::gather;
 use crate::grammar::scan;
 use crate::group::Group;
-use crate::groups::{are_subset, combine_groups, insert, intervals_of, reserve};
+use crate::groups::{
+    are_subset, are_subset_in_one_pass, combine_groups, insert, intervals_of, reserve,
+};
 use crate::identifier::Gtid;
 use crate::interval;
 use crate::reading::read_spans;
@@ -88,7 +90,7 @@ impl GtidSet {
     }
 
     /// Looks a GTID up, and makes room for it if it is not in the set, so that adding it cannot fail. For a GTID in the
-    /// set it takes no memory.
+    /// set, or with a neighbour in it, it takes no memory.
     pub fn entry(self, gtid: Gtid) -> Entry
         ensures { IsLookUp self (id gtid) result }
     {
@@ -104,33 +106,42 @@ impl GtidSet {
         }
     }
 
-    /// Adds the GTIDs of the other set. The only error is `Memory`, which comes only if the other set is not empty, and
-    /// leaves the set as it was.
+    /// Adds the GTIDs of the other set. The only error is `Memory`, which comes only if the other set has a GTID that this
+    /// one lacks, and leaves the set as it was.
     pub fn union(&mut self, other: &GtidSet) -> Result<(), GtidFault>
         ensures ok { OnOk result (self.new ≡ set.union self.old other.now) }
         ensures err { OnErr result ((result ≡ Err GtidFault.Memory) × (self.new ≡ self.old)) }
         ensures none { other.now ≡ set.empty → IsOk result }
+        ensures subset { set.is_subset other.now self.old ≡ true → IsOk result }
     {
         if other.groups.len() == 0 {
             return Ok(()); // nothing is to be added
+        }
+        if are_subset_in_one_pass(&other.groups, &self.groups) {
+            return Ok(());
         }
         let alloc = *self.groups.allocator();
         self.groups = combine_groups(alloc, Combination::Union, &self.groups, &other.groups)?;
         Ok(())
     }
 
-    /// Removes the GTIDs of the other set. The only error is `Memory`, which comes only if neither set is empty, and
-    /// leaves the set as it was.
+    /// Removes the GTIDs of the other set. The only error is `Memory`, which comes only if the other set is not empty and
+    /// lacks a GTID of this one, and leaves the set as it was.
     pub fn subtract(&mut self, other: &GtidSet) -> Result<(), GtidFault>
         ensures ok { OnOk result (self.new ≡ set.difference self.old other.now) }
         ensures err { OnErr result ((result ≡ Err GtidFault.Memory) × (self.new ≡ self.old)) }
         ensures none { (self.old ≡ set.empty) ⊎ (other.now ≡ set.empty) → IsOk result }
+        ensures subset { set.is_subset self.old other.now ≡ true → IsOk result }
     {
         if self.groups.len() == 0 {
             return Ok(());
         }
         if other.groups.len() == 0 {
             return Ok(()); // nothing is to be removed
+        }
+        if are_subset_in_one_pass(&self.groups, &other.groups) {
+            self.groups.clear();
+            return Ok(());
         }
         let alloc = *self.groups.allocator();
         self.groups = combine_groups(alloc, Combination::Difference, &self.groups, &other.groups)?;
@@ -229,11 +240,12 @@ impl GtidSet {
     }
 
     /// The set of all GTIDs that are in at least one span. The spans may come in any order, overlap and touch; if they
-    /// ascend it takes linear time. The only error is `Memory`.
+    /// ascend it takes linear time. The only error is `Memory`, which comes only if there is a span.
     pub fn of_spans(alloc: Global, spans: Vec<Span>) -> Result<GtidSet, GtidFault>
         requires { AllByRecursion IsLawfulSpan spans.items }
         ensures ok { IfOk result (Covers spans.items) }
         ensures err { IfErr result (λ fault. fault ≡ GtidFault.Memory) }
+        ensures some { OnErr result (0 < length spans.items) }
     {
         let merged = gather(alloc, spans)?;
         Ok(GtidSet { groups: merged })

@@ -2,7 +2,7 @@ use Rattle.std.proofs.Common.{length, ap, Err, ⊎_elim, inr, arith}
 use Rattle.std.proofs.lemmas.Bool.{cases_eq}
 use Rattle.std.proofs.lemmas.Result.{err_from_is_err_and}
 use Rattle.binlog.specs.RowsView.{rows_value, pair_value}
-use Rattle.gather.proofs.RowItems.{walk_begins, walk_more, walk_ends, walk_faults, walk_images, other_columns, ok_not_err}
+use Rattle.gather.proofs.RowItems.{walk_begins, walk_more, walk_ends, walk_faults, walk_first, walk_images, other_columns, ok_not_err}
 use Rattle.gather.proofs.row_changes.push_changes.Goals as goal
 
 pub returns-in_err-pair-items-clause-fault : goal.returns-in_err-pair-items-clause-fault
@@ -38,3 +38,19 @@ loop-pair-preserved c =
 
 pub returns-clause-ok : goal.returns-clause-ok
 returns-clause-ok c = walk_ends c.args.table.now (rows_value c.args.event.now) c.args.changes.now c.loop-pair.changes (rw c.in-None.ensures.steps.0 at c.loop-pair.invariant)
+
+pub returns-in_err-pair-items-clause-memory : goal.returns-in_err-pair-items-clause-memory
+returns-in_err-pair-items-clause-memory c = λ id.
+    let p = err_from_is_err_and c.from_residual.result c.from_residual.ensures.1 in
+    rw (p.1, p.2) (λ wanted. absurd cc)
+
+pub returns-in_err-pair-clause-memory : goal.returns-in_err-pair-clause-memory
+returns-in_err-pair-clause-memory c = λ id.
+    let p = err_from_is_err_and c.from_residual-in_err-pair.result c.from_residual-in_err-pair.ensures.1 in
+    rw (p.1, p.2) (λ wanted. absurd cc)
+
+pub returns-in_err-push-clause-memory : goal.returns-in_err-push-clause-memory
+returns-in_err-push-clause-memory c = λ id.
+    let p = err_from_is_err_and c.from_residual-in_err-push.result c.from_residual-in_err-push.ensures.1 in
+    let w = rw (c.in-Some.ensures.steps, c.in_ok-pair.was) at c.loop-pair.invariant in
+    rw p.1 (λ wanted. walk_first c.args.table.now (rows_value c.args.event.now) (pair_value c.in_ok-pair.field-0) c.next.new.self c.args.changes.now c.loop-pair.changes w id)

@@ -1,7 +1,7 @@
-use Rattle.std.proofs.Common.{Err}
+use Rattle.std.proofs.Common.{Err, sym, ◌∙◌}
 use Rattle.std.proofs.lemmas.Result.{err_from_is_err_and}
 use Rattle.binlog.specs.RowsView.{rows_value}
-use Rattle.gather.proofs.States.{rows_break_off}
+use Rattle.gather.proofs.States.{rows_break_off, rows_add}
 use Rattle.gather.proofs.state.take_rows.Goals as goal
 
 pub returns-in_err-take_rows-in-Inside-clause-fault : goal.returns-in_err-take_rows-in-Inside-clause-fault
@@ -12,4 +12,6 @@ returns-in_err-take_rows-in-Inside-clause-fault c =
 
 pub returns-in_err-take_rows-in-Inside-clause-memory : goal.returns-in_err-take_rows-in-Inside-clause-memory
 returns-in_err-take_rows-in-Inside-clause-memory c =
-    rw (err_from_is_err_and c.from_residual.result c.from_residual.ensures.1).1 (λ wanted. (c.in-Inside.current, c.in-Inside.is))
+    let p = err_from_is_err_and c.from_residual.result c.from_residual.ensures.1 in
+    let e = c.in_err-take_rows-in-Inside in
+    rw p.1 (λ wanted. rows_add c.in-Inside.current (rows_value c.args.event.now) c.args.state.now c.in-Inside.is (λ body keeps. e.ensures.memory body keeps (sym p.2 ∙ wanted)))

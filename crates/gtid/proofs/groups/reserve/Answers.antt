@@ -60,3 +60,20 @@ returns-in_err-reserve-in-Err-clause-known c known =
 pub returns-in_ok-reserve-in-Err-clause-known : goal.returns-in_ok-reserve-in-Err-clause-known
 returns-in_ok-reserve-in-Err-clause-known c known =
     absurd (true≢false (sym known ∙ listed_gap c.args.groups.now.items c.in-Err.at c.args.gtid.source (rw c.deref.ensures.value at c.in-Err.ensures.absent) c.args.gtid.number))
+
+pub returns-in_err-reserve-in-Ok-clause-near : goal.returns-in_err-reserve-in-Ok-clause-near
+returns-in_err-reserve-in-Ok-clause-near c n beside one =
+    let groups = c.args.groups.now.items in
+    let old = c.index_mut.result.now in
+    let found = rw c.deref.ensures.value at c.in-Ok.ensures.found in
+    let at = any_default groups c.in-Ok.at old found.0 c.index_mut.ensures.value in
+    let listed = listed_at groups c.in-Ok.at old c.args.gtid.source c.requires.ascend found.0 at (ap (λ x. x.source) (sym (at old)) ∙ found.1 old) n in
+    absurd (true≢false (sym (c.in_err-reserve-in-Ok.ensures.near n beside (sym listed ∙ one))))
+
+pub returns-in_err-group-in-Err-clause-near : goal.returns-in_err-group-in-Err-clause-near
+returns-in_err-group-in-Err-clause-near c n beside one =
+    absurd (true≢false (sym one ∙ listed_gap c.args.groups.now.items c.in-Err.at c.args.gtid.source (rw c.deref.ensures.value at c.in-Err.ensures.absent) n))
+
+pub returns-in_err-reserve-in-Err-clause-near : goal.returns-in_err-reserve-in-Err-clause-near
+returns-in_err-reserve-in-Err-clause-near c n beside one =
+    absurd (true≢false (sym one ∙ listed_gap c.args.groups.now.items c.in-Err.at c.args.gtid.source (rw c.deref.ensures.value at c.in-Err.ensures.absent) n))

@@ -23,3 +23,11 @@ pub returns-in-Some-Some-clause-fault : goal.returns-in-Some-Some-clause-fault
 returns-in-Some-Some-clause-fault c = λ body keeps.
     let said = reported body c.args.self.now c.args.event.now.id (Some c.in-Some-Some.table) keeps (sym c.in-Some-Some.ensures.value ∙ ap Some c.in-Some-Some.field-0-is) in
     rw said (c.push_changes.ensures.fault c.args.event.now.id)
+
+pub returns-in-None-clause-memory : goal.returns-in-None-clause-memory
+returns-in-None-clause-memory c = λ body keeps wanted. absurd cc
+
+pub returns-in-Some-Some-clause-memory : goal.returns-in-Some-Some-clause-memory
+returns-in-Some-Some-clause-memory c = λ body keeps.
+    let said = reported body c.args.self.now c.args.event.now.id (Some c.in-Some-Some.table) keeps (sym c.in-Some-Some.ensures.value ∙ ap Some c.in-Some-Some.field-0-is) in
+    rw said (c.push_changes.ensures.memory c.args.event.now.id)

@@ -45,4 +45,8 @@ returns-in-Err c =
         | inl known ↦ absurd (false≢true (ap is_none (c.in-Err.ensures.known known)))
         | inr new ↦ new
       ],
+      λ n beside. sym (member (q.0, n)) ∙ elim (cases_Bool (is_listed (q.0, n) old)) [
+        | inl there ↦ absurd (true≢false (sym (c.in-Err.ensures.near n beside there)))
+        | inr none ↦ none
+      ],
     )

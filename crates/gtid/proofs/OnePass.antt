@@ -1,0 +1,203 @@
+-- Whether one list is within another, found in one pass over both.
+use Rattle.std.proofs.Common.{◌≡◌, ℕ, ◌⊎◌, inl, inr, Bool, true, false, ◌&&◌, ◌||◌, ◌<◌, ◌≤◌, List, [], ◌∷◌, length, drop, slice_index_or, refl, ap, sym, ◌∙◌, arith}
+use Rattle.std.specs.Bool.{IsTrue}
+use Rattle.std.proofs.lemmas.Bool.{false≢true}
+use Rattle.std.proofs.lemmas.Bool.Decides.{nat_tests, leb_tells}
+use Rattle.std.proofs.lemmas.Slice.Eq.{bytes_eq-Decides}
+use Rattle.std.specs.Str.{bytes_eq}
+use Rattle.gtid.specs.Identifier.{Id}
+use Rattle.gtid.specs.Interval.{is_within, has, AreLeast}
+use Rattle.gtid.specs.Group.{Ascend, sources, is_listed, IsNext, IsNoHigher}
+use Rattle.gtid.specs.declared.interval.Interval.{Interval}
+use Rattle.gtid.specs.declared.group.Group.{Group}
+use Rattle.gtid.proofs.Within.{below_least, is_above, is_below, is_in, none}
+use Rattle.gtid.proofs.Merged.{Taken, none_above, next_no_higher}
+
+either : (a b : Bool) → (a || b) ≡ true → (a ≡ true) ⊎ (b ≡ true)
+either true b is = inl refl
+either false b is = inr is
+
+right_of : (a b : Bool) → b ≡ true → (a || b) ≡ true
+right_of true b is = refl
+right_of false b is = is
+
+left_of : (a b : Bool) → a ≡ true → (a || b) ≡ true
+left_of true b is = refl
+left_of false b is = absurd (false≢true is)
+
+-- ---- Intervals.
+
+-- each number of the first is in the second
+abbrev pub AreIn : List Interval → List Interval → Type 0
+AreIn intervals of = (n : ℕ) → has intervals n ≡ true → has of n ≡ true
+
+-- what is left of both says the same as all of both
+pub record Onward (intervals of parts left : List Interval) : Type 0 where
+  pub parts_least : AreLeast 0 parts
+  pub left_least : AreLeast 0 left
+  pub on : AreIn parts left → AreIn intervals of
+  pub back : AreIn intervals of → AreIn parts left
+
+-- intervals after an end are least intervals
+lower_end : (end : ℕ) (intervals : List Interval) → AreLeast end intervals → AreLeast 0 intervals
+lower_end end [] least = tt
+lower_end end (i ∷ intervals) least = (omega (arith, least.0), least.1, least.2, least.3)
+
+within_lo : (n : ℕ) (i : Interval) → is_within n i ≡ true → i.lo ≤ n
+within_lo n i is = grind (arith, nat_tests)
+
+within_hi : (n : ℕ) (i : Interval) → is_within n i ≡ true → n < i.hi
+within_hi n i is = grind (arith, nat_tests)
+
+-- a number that is in one of the intervals is not below the first
+not_below : (n : ℕ) (i : Interval) (rest : List Interval) → AreLeast 0 (i ∷ rest) → has (i ∷ rest) n ≡ true → i.lo ≤ n
+not_below n i rest least is = elim (either (is_within n i) (has rest n) is) [
+  | inl here ↦ within_lo n i here
+  | inr later ↦ elim (leb_tells i.lo n) [
+    | inl le ↦ le.1
+    | inr less ↦ absurd (false≢true (sym (below_least i.hi rest n least.3 (omega (arith, least.1))) ∙ later))
+  ]
+]
+
+-- an interval that ends before the first part does is left out
+left_out : (p x : Interval) (rest others : List Interval) → AreLeast 0 (p ∷ rest) → AreLeast 0 (x ∷ others) → x.hi < p.hi → AreIn (p ∷ rest) (x ∷ others) → AreIn (p ∷ rest) others
+left_out p x rest others least least_of ends all n is = elim (either (is_within n x) (has others n) (all n is)) [
+  | inr later ↦ later
+  | inl here ↦ (
+      let low : p.lo ≤ n = not_below n p rest least is in
+      let high : n < x.hi = within_hi n x here in
+      let inside : has (p ∷ rest) x.hi ≡ true = left_of (is_within x.hi p) (has rest x.hi) (is_in x.hi p (omega arith) (omega arith)) in
+      let outside : has (x ∷ others) x.hi ≡ false = none (is_above x.hi x (omega arith)) (below_least x.hi others x.hi least_of.3 (omega arith)) in
+      absurd (false≢true (sym outside ∙ all x.hi inside)))
+]
+
+-- a part within an interval is done
+part_done : (p x : Interval) (rest others : List Interval) → x.lo ≤ p.lo → p.hi ≤ x.hi → AreIn rest (x ∷ others) → AreIn (p ∷ rest) (x ∷ others)
+part_done p x rest others begins ends all n is = elim (either (is_within n p) (has rest n) is) [
+  | inl here ↦ (
+      let low : p.lo ≤ n = within_lo n p here in
+      let high : n < p.hi = within_hi n p here in
+      left_of (is_within n x) (has others n) (is_in n x (omega arith) (omega arith)))
+  | inr later ↦ all n later
+]
+
+-- where a part begins
+begins_in : (p : Interval) (rest : List Interval) → p.lo < p.hi → has (p ∷ rest) p.lo ≡ true
+begins_in p rest some = left_of (is_within p.lo p) (has rest p.lo) (is_in p.lo p (omega arith) some)
+
+pub onward_first : {intervals of : List Interval} → AreLeast 0 intervals → AreLeast 0 of → Onward intervals of intervals of
+onward_first least least_of = record { parts_least = least; left_least = least_of; on = λ all. all; back = λ all. all }
+
+pub onward_left : {intervals of : List Interval} (parts left : List Interval) (d : Interval) → Onward intervals of parts left → 1 ≤ length parts → 1 ≤ length left →
+    (slice_index_or left 0 d).hi < (slice_index_or parts 0 d).hi → Onward intervals of parts (drop 1 left)
+onward_left [] left d o some some_left ends = absurd (omega arith)
+onward_left (p ∷ rest) [] d o some some_left ends = absurd (omega arith)
+onward_left (p ∷ rest) (x ∷ others) d o some some_left ends = record {
+  parts_least = o.parts_least;
+  left_least = lower_end x.hi others o.left_least.3;
+  on = λ all. o.on (λ n is. right_of (is_within n x) (has others n) (all n is));
+  back = λ all. left_out p x rest others o.parts_least o.left_least ends (o.back all);
+}
+
+pub onward_part : {intervals of : List Interval} (parts left : List Interval) (d : Interval) → Onward intervals of parts left → 1 ≤ length parts → 1 ≤ length left →
+    (slice_index_or parts 0 d).hi ≤ (slice_index_or left 0 d).hi → (slice_index_or left 0 d).lo ≤ (slice_index_or parts 0 d).lo → Onward intervals of (drop 1 parts) left
+onward_part [] left d o some some_left ends begins = absurd (omega arith)
+onward_part (p ∷ rest) [] d o some some_left ends begins = absurd (omega arith)
+onward_part (p ∷ rest) (x ∷ others) d o some some_left ends begins = record {
+  parts_least = lower_end p.hi rest o.parts_least.3;
+  left_least = o.left_least;
+  on = λ all. o.on (part_done p x rest others begins ends all);
+  back = λ all n is. o.back all n (right_of (is_within n p) (has rest n) is);
+}
+
+-- each part was found
+pub onward_all : {intervals of : List Interval} (parts left : List Interval) → Onward intervals of parts left → length parts < 1 → AreIn intervals of
+onward_all [] left o none = o.on (λ n is. absurd (false≢true is))
+onward_all (p ∷ rest) left o none = absurd (omega arith)
+
+-- a part after the last of the others
+pub onward_none : {intervals of : List Interval} (parts left : List Interval) → Onward intervals of parts left → 1 ≤ length parts → length left < 1 → AreIn intervals of → IsTrue false
+onward_none [] left o some none all = absurd (omega arith)
+onward_none (p ∷ rest) [] o some none all = absurd (false≢true (o.back all p.lo (begins_in p rest o.parts_least.1)))
+onward_none (p ∷ rest) (x ∷ others) o some none all = absurd (omega arith)
+
+-- a part that begins before the first of the others
+pub onward_gap : {intervals of : List Interval} (parts left : List Interval) (d : Interval) → Onward intervals of parts left → 1 ≤ length parts → 1 ≤ length left →
+    (slice_index_or parts 0 d).lo < (slice_index_or left 0 d).lo → AreIn intervals of → IsTrue false
+onward_gap [] left d o some some_left begins all = absurd (omega arith)
+onward_gap (p ∷ rest) [] d o some some_left begins all = absurd (omega arith)
+onward_gap (p ∷ rest) (x ∷ others) d o some some_left begins all =
+    let outside : has (x ∷ others) p.lo ≡ false = none (is_below p.lo x begins) (below_least x.hi others p.lo o.left_least.3 (omega (arith, o.left_least.1))) in
+    absurd (false≢true (sym outside ∙ o.back all p.lo (begins_in p rest o.parts_least.1)))
+
+-- ---- Groups.
+
+-- each GTID of the first is in the second
+abbrev pub AreListed : List Group → List Group → Type 0
+AreListed groups of = (q : Id) → is_listed q groups ≡ true → is_listed q of ≡ true
+
+-- what is left of both says the same as all of both
+pub record Passed (groups of left right : List Group) : Type 0 where
+  pub left_ascend : Ascend (sources left)
+  pub right_ascend : Ascend (sources right)
+  pub on : AreListed left right → AreListed groups of
+  pub back : AreListed groups of → AreListed left right
+
+-- the next source's, and those after it
+source_on : (q : Id) (s : List ℕ) (a b : List Interval) (l r : List Group) → AreIn a b → AreListed l r → ((bytes_eq q.0 s && has a q.1) || is_listed q l) ≡ true → ((bytes_eq q.0 s && has b q.1) || is_listed q r) ≡ true
+source_on q s a b l r here later is = elim (either (bytes_eq q.0 s && has a q.1) (is_listed q l) is) [
+  | inl one ↦ left_of (bytes_eq q.0 s && has b q.1) (is_listed q r) (both (bytes_eq q.0 s) one)
+  | inr other ↦ right_of (bytes_eq q.0 s && has b q.1) (is_listed q r) (later q other)
+]
+  where
+    both : (e : Bool) → (e && has a q.1) ≡ true → (e && has b q.1) ≡ true
+    both true is = here q.1 is
+    both false is = is
+
+-- the numbers of the next source
+source_numbers : (s : List ℕ) (a b : List Interval) (left right l r : List Group) → Taken [] s left a l → Taken [] s right b r → AreListed left right → AreIn a b
+source_numbers s a b left right l r from_left from_right all n is =
+    let same = (bytes_eq-Decides s s).1 refl in
+    let listed : is_listed (s, n) left ≡ true = from_left.listed (s, n) ∙ left_of (bytes_eq s s && has a n) (is_listed (s, n) l) ((λ i. same i && has a n) ∙ is) in
+    let there : ((bytes_eq s s && has b n) || is_listed (s, n) r) ≡ true = sym (from_right.listed (s, n)) ∙ all (s, n) listed in
+    elim (either (bytes_eq s s && has b n) (is_listed (s, n) r) there) [
+      | inl one ↦ (λ i. sym same i && has b n) ∙ one
+      | inr other ↦ absurd (false≢true (sym (none_above s r (s, n) from_right.above same) ∙ other))
+    ]
+
+-- the sources after it
+source_rest : (s : List ℕ) (a b : List Interval) (left right l r : List Group) → Taken [] s left a l → Taken [] s right b r → AreListed left right → AreListed l r
+source_rest s a b left right l r from_left from_right all q is =
+    let there : ((bytes_eq q.0 s && has b q.1) || is_listed q r) ≡ true = sym (from_right.listed q) ∙ all q (from_left.listed q ∙ right_of (bytes_eq q.0 s && has a q.1) (is_listed q l) is) in
+    elim (either (bytes_eq q.0 s && has b q.1) (is_listed q r) there) [
+      | inl one ↦ absurd (false≢true (sym (none_above s l q from_left.above (first (bytes_eq q.0 s) (has b q.1) one)) ∙ is))
+      | inr other ↦ other
+    ]
+  where
+    first : (x y : Bool) → (x && y) ≡ true → x ≡ true
+    first true y is = refl
+    first false y is = is
+
+pub passed_first : {groups of : List Group} → Ascend (sources groups) → Ascend (sources of) → Passed groups of groups of
+passed_first ascend ascend_of = record { left_ascend = ascend; right_ascend = ascend_of; on = λ all. all; back = λ all. all }
+
+pub passed_source : {groups of left right : List Group} (s : List ℕ) (a b : List Interval) (l r : List Group) → Passed groups of left right → Taken [] s left a l → Taken [] s right b r → AreIn a b → Passed groups of l r
+passed_source {left = left} {right = right} s a b l r p from_left from_right here = record {
+  left_ascend = from_left.ascend;
+  right_ascend = from_right.ascend;
+  on = λ later. p.on (λ q is. from_right.listed q ∙ source_on q s a b l r here later (sym (from_left.listed q) ∙ is));
+  back = λ all. source_rest s a b left right l r from_left from_right (p.back all);
+}
+
+-- none of either list is of a source before the next one
+pub none_higher : (s : List ℕ) (left right : List Group) → (IsNext s left × IsNoHigher s right) ⊎ (IsNoHigher s left × IsNext s right) → IsNoHigher s left × IsNoHigher s right
+none_higher s left right (inl (next, low)) = (next_no_higher s left next, low)
+none_higher s left right (inr (low, next)) = (low, next_no_higher s right next)
+
+-- the next source's numbers, where all are in the other
+pub passed_numbers : {groups of left right : List Group} (s : List ℕ) (a b : List Interval) (l r : List Group) → Passed groups of left right → Taken [] s left a l → Taken [] s right b r → AreListed groups of → AreIn a b
+passed_numbers {left = left} {right = right} s a b l r p from_left from_right all = source_numbers s a b left right l r from_left from_right (p.back all)
+
+-- no source is left
+pub passed_all : {groups of left right : List Group} → Passed groups of left right → left ≡ [] → AreListed groups of
+passed_all p none = p.on (λ q is. absurd (false≢true (sym (ap (is_listed q) none) ∙ is)))
