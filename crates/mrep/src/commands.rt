@@ -12,6 +12,7 @@ pub mod load;
 pub mod minus;
 pub mod replay;
 pub mod select;
+pub mod skip;
 pub mod verify;
 
 use crate::commands::clear::clear;
@@ -24,6 +25,7 @@ use crate::commands::load::load;
 use crate::commands::minus::minus;
 use crate::commands::replay::replay;
 use crate::commands::select::select;
+use crate::commands::skip::skip;
 use crate::commands::verify::verify;
 use crate::report::failure::{DONE, Failure, MEMORY};
 use clap::{ArgMatches, Command};
@@ -152,6 +154,7 @@ fn run_named<'a, W: Write, E: Write>(
         "select" => select(rt, given, out)?,
         "load" => load(rt, given, out, err)?,
         "clear" => clear(rt, given, out, err)?,
+        "skip" => skip(rt, given, out)?,
         "copy" => copy(rt, given)?,
         "export" => export(rt, given, err)?,
         "verify" => verify(rt, given, out, err)?,

@@ -3,7 +3,7 @@
 //! [`write_end`] is the line of an end, [`write_cause`] and [`write_advice`] what stands on standard error beside it;
 //! [`write_unloadable`] says why a first copy may not be loaded. [`Pulse`] is lines of progress and the status, [`Metered`] a reader
 //! that reports them, and [`Socket`] a connection that reports them while nothing comes. [`Watch`] is the observer of a command:
-//! it writes all of these and the change feed.
+//! it writes all of these and the change feed, and [`SkipWatch`] is that of `mrep skip`.
 //!
 //! No function has a contract but that a read stays within its buffer, and that a command stops once something could not be
 //! written: what the lines say is tested.
@@ -12,6 +12,7 @@
 mod metered;
 mod pulse;
 mod reason;
+mod skip_watch;
 mod socket;
 mod unloadable;
 mod watch;
@@ -19,6 +20,7 @@ mod watch;
 pub use metered::Metered;
 pub use pulse::Pulse;
 pub use reason::{Halt, can_skip, write_advice, write_cause, write_end, write_reason};
+pub use skip_watch::SkipWatch;
 pub use socket::Socket;
 pub use unloadable::write_unloadable;
 pub use watch::{Reports, Source, Stop, Watch};

@@ -1,4 +1,4 @@
-//! The commands over the store in a database file: `show`, `tables`, `gtids`, `missing`, `adopt` and `skip`.
+//! The commands over the store in a database file: `show`, `tables`, `gtids`, `missing` and `adopt`.
 
 ghost use Rattle.std.specs.Prelude.{◌≡◌, IfOk};
 
@@ -8,11 +8,10 @@ use crate::database::open::work_on;
 use crate::database::printer::Selection;
 use crate::report::failure::{DONE, Failure};
 use clap::ArgMatches;
-use command_line::{ArgumentFault, parse_encoding, parse_gtid, parse_set, parse_tables, word};
+use command_line::{ArgumentFault, parse_encoding, parse_set, parse_tables, word};
 use files::has_bytes;
 use formats::{Chosen, format_of, note_made};
 use std::io::Write;
-use typed_rows::SkipFeed;
 
 /// The job of the command of this name, if it is one over a store.
 pub fn job_of<'a>(
@@ -27,20 +26,9 @@ pub fn job_of<'a>(
         "gtids" => Job::Executed,
         "missing" => Job::Missing(parse_set(alloc, "SET", word(given, "SET"))?),
         "adopt" => Job::Adopt(parse_set(alloc, "SET", word(given, "SET"))?),
-        "skip" => Job::Skip(parse_gtid("G", word(given, "G"))?, skip_feed(rt, given)),
         _ => return Ok(None),
     };
     Ok(Some(job))
-}
-
-/// The change feed of `mrep skip`, if one is asked for.
-fn skip_feed<'a>(rt: &'a HostRuntime, given: &ArgMatches<'a>) -> Option<SkipFeed<'a>> {
-    let name = given.get_str("changes")?;
-    Some(SkipFeed {
-        rt,
-        name,
-        db: word(given, "db"),
-    })
 }
 
 /// The job of `mrep show`: which rows are printed, and how.

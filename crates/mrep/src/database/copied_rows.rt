@@ -41,22 +41,35 @@ impl<'a> CopyFile<'a> {
         if name == INPUT && digest.is_none() {
             return Err(Failure::Unusable { name, why: TWICE });
         }
-        let mut kept = None;
-        if name == INPUT {
-            kept = Some(over_file(db, KeptInput::take(rt, db))?);
-        }
+        let kept = if name == INPUT {
+            Some(over_file(db, KeptInput::take(rt, db))?)
+        } else {
+            None
+        };
+        let columns = word(given, "columns");
         let file = CopyFile {
             name,
-            columns: word(given, "columns"),
+            columns,
             kept,
         };
-        match digest {
-            Some(digest) if file.digest(rt)? != digest => Err(Failure::Unusable {
-                name,
-                why: OTHER,
-            }),
-            _ => Ok(file),
+        if let Some(digest) = digest {
+            file.compare(rt, digest)?;
         }
+        Ok(file)
+    }
+
+    /// Whether its SHA-1 is this one.
+    fn compare(&self, rt: &HostRuntime, digest: [u8; 20]) -> Result<(), Failure<'a>> {
+        let (mut input, _) = self.open(rt)?;
+        let mut piece = vec![in rt.alloc(); 0; PIECE]?;
+        let found = self.used(text_digest(&mut input, &mut piece))?;
+        if found == digest {
+            return Ok(());
+        }
+        Err(Failure::Unusable {
+            name: self.name,
+            why: OTHER,
+        })
     }
 
     /// Reads the copy to its end. Returns how many bytes it has, too.
@@ -91,13 +104,6 @@ impl<'a> CopyFile<'a> {
             Some(size) => Ok((input, size)),
             None => Err(Failure::Unusable { name, why: TWICE }),
         }
-    }
-
-    /// The SHA-1 of all its bytes.
-    fn digest(&self, rt: &HostRuntime) -> Result<[u8; 20], Failure<'a>> {
-        let (mut input, _) = self.open(rt)?;
-        let mut piece = vec![in rt.alloc(); 0; PIECE]?;
-        self.used(text_digest(&mut input, &mut piece))
     }
 
     /// The description, and a reader of the open file.

@@ -1,25 +1,24 @@
 //! What a command does with the store in a database file, and what comes of it.
 
-ghost use Rattle.std.specs.Prelude.{◌≡◌, [], Bool, Ok, string_bytes, IfOk};
+ghost use Rattle.std.specs.Prelude.{◌≡◌, [], Bool, string_bytes, IfOk};
 ghost use Rattle.std.specs.FinSet as set;
 ghost use Rattle.sqlite.specs.State.{HasCleanDisk};
 ghost use Rattle.gtid.specs.Text.{AppendsText};
 ghost use Rattle.store.specs.State.{Content};
 ghost use Rattle.store.specs.Changes.{with_executed};
-ghost use Rattle.store.specs.Store.{Applies, Holds, HoldsAs, database};
+ghost use Rattle.store.specs.Store.{Holds, HoldsAs, database};
 
 use crate::database::exporter::{Exporter, export_rows};
 use crate::database::printer::{Selection, print_rows, print_tallies};
-use crate::report::failure::{Failure, of_skip};
+use crate::report::failure::Failure;
 use formats::{Chosen, text_of};
-use gather::{Changes, Delivery};
-use gtid::{Gtid, GtidSet};
+use gtid::GtidSet;
 use sqlite::Alter;
 use std::alloc::Global;
 use std::io;
 use std::io::Write;
-use store::{Applied, Store, StoreFault};
-use typed_rows::{DescribedTables, SkipFeed};
+use store::Store;
+use typed_rows::DescribedTables;
 
 /// What is done with a store.
 #[derive(Drop)]
@@ -32,8 +31,6 @@ pub enum Job<'a> {
     Missing(GtidSet),
     /// This set is added to its executed set.
     Adopt(GtidSet),
-    /// A transaction without changes is applied, and a change feed says so, if there is one.
-    Skip(Gtid, Option<SkipFeed<'a>>),
     /// Its filter is printed, and how many rows of each table it has.
     Tables,
     /// Its rows are printed, with names and types if tables are described.
@@ -49,8 +46,6 @@ pub enum Done {
     Nothing,
     /// The text of a set.
     Set(String),
-    /// Whether a transaction was new.
-    Applied(Applied),
     /// The rows are printed, and of these tables some were there.
     Shown(Chosen),
 }
@@ -77,10 +72,6 @@ impl<'a> Job<'a> {
             Job::Executed => set_of(executed_text(alloc, store)),
             Job::Missing(asked) => set_of(missing_text(alloc, asked, store)),
             Job::Adopt(asked) => set_of(adopt(alloc, name, store, &asked)),
-            Job::Skip(gtid, feed) => match skip_and_feed(alloc, name, store, gtid, feed) {
-                Ok(applied) => Ok(Done::Applied(applied)),
-                Err(failure) => Err(failure),
-            },
             Job::Tables => match print_tallies(alloc, name, store, out) {
                 Ok(()) => Ok(Done::Nothing),
                 Err(failure) => Err(failure),
@@ -113,8 +104,6 @@ impl Done {
         match self {
             Done::Nothing => Ok(()),
             Done::Set(text) => writeln!(out, "{text}"),
-            Done::Applied(Applied::Done) => writeln!(out, "Done"),
-            Done::Applied(Applied::Repeat) => writeln!(out, "Repeat"),
             Done::Shown(chosen) => {
                 out.flush()?;
                 let _ = chosen.note_missing(file, err);
@@ -173,71 +162,6 @@ fn adopt<'a, S: Alter>(
     let new = missing_text(alloc, copied, store)?;
     match store.adopt(asked) {
         Ok(()) => Ok(new),
-        Err(cause) => Err(Failure::Database { name, cause }),
-    }
-}
-
-/// Applies a transaction without changes, and writes to a feed that it is skipped, if there is one and it is new.
-fn skip_and_feed<'a, S: Alter>(
-    alloc: Global,
-    name: &'a str,
-    store: &mut Store<S>,
-    gtid: Gtid,
-    feed: Option<SkipFeed<'a>>,
-) -> Result<Applied, Failure<'a>> {
-    let Some(feed) = feed else {
-        return skip(alloc, name, store, gtid);
-    };
-    if store.executed().contains(gtid) {
-        return Ok(Applied::Repeat);
-    }
-    let executed = text_of(alloc, store.executed())?;
-    let mut skipping = match feed.begin(alloc, executed.as_str(), gtid) {
-        Ok(skipping) => skipping,
-        Err(error) => return Err(of_skip(feed.name, error)),
-    };
-    let done = skip(alloc, name, store, gtid);
-    match skipping.end(alloc, is_recorded(&done)) {
-        Ok(()) => done,
-        Err(error) => Err(of_skip(feed.name, error)),
-    }
-}
-
-/// Whether a transaction was recorded: after a failure of the database that is not known.
-fn is_recorded(done: &Result<Applied, Failure<'_>>) -> Option<bool> {
-    match done {
-        Ok(_) => Some(true),
-        Err(
-            Failure::Database {
-                cause: StoreFault::Database(_),
-                ..
-            },
-        ) => None,
-        Err(_) => Some(false),
-    }
-}
-
-/// Applies a transaction without changes.
-fn skip<'a, S: Alter>(
-    alloc: Global,
-    name: &'a str,
-    store: &mut Store<S>,
-    gtid: Gtid,
-) -> Result<Applied, Failure<'a>>
-    ensures skips { HasCleanDisk (database S.Store store.new) → (content : Content)
-        → Holds S.Store store.old content → IfOk result
-        (λ applied. Applies S.Store content (record {
-          source = gtid.source;
-          number = gtid.number;
-          changes = [];
-        }) store.old store.new (Ok applied)) }
-{
-    let delivery = Delivery {
-        gtid,
-        changes: Changes::new(alloc),
-    };
-    match store.apply(&delivery) {
-        Ok(applied) => Ok(applied),
         Err(cause) => Err(Failure::Database { name, cause }),
     }
 }

@@ -1,0 +1,103 @@
+//! `mrep skip`: a GTID as executed, without changes.
+
+ghost use Rattle.std.specs.Prelude.{◌≡◌, ◌≤◌, [], ◌∷◌, map, IfOk};
+ghost use Rattle.gather.specs.View.{delivery_value};
+
+use crate::commands::clear::failure_of;
+use crate::database::open::{closed, opened, opening};
+use crate::report::failure::{DONE, Failure, MEMORY, of_skip};
+use clap::ArgMatches;
+use command_line::{parse_gtid, word};
+use gather::{Changes, Delivery};
+use gtid::{Gtid, GtidSet};
+use replica::{ChangeEnd, ChangedFile, Observer, change_file};
+use reports::SkipWatch;
+use sqlite::File;
+use sqlite_disk::Unknown;
+use std::alloc::{AllocError, Global};
+use std::collections::VecDeque;
+use std::convert::Infallible;
+use std::io::Write;
+use typed_rows::SkipFeed;
+
+/// Records a GTID as executed, without changes, and prints whether it was new.
+pub fn skip<'a, W: Write>(
+    rt: &'a HostRuntime,
+    given: &ArgMatches<'a>,
+    out: &mut W,
+) -> Result<u8, Failure<'a>>
+    ensures { IfOk result (λ status. status ≤ MEMORY) }
+{
+    let (db, gtid) = (word(given, "db"), parse_gtid("G", word(given, "G"))?);
+    let feed = skip_feed(rt, given);
+    let mut watch = SkipWatch::new(rt.alloc(), feed);
+    let done = record(rt, db, gtid, &mut watch)?;
+    let ChangedFile {
+        applied,
+        end,
+        closed: files,
+    } = done;
+    let files = closed(db, files);
+    if let (Some(error), Some(feed)) = (watch.stop(), feed) {
+        return Err(of_skip(feed.name, error));
+    }
+    outcome(db, end)?;
+    files?;
+    if applied > 0 {
+        writeln!(out, "Done")?;
+    } else {
+        writeln!(out, "Repeat")?;
+    }
+    Ok(DONE)
+}
+
+/// The change feed, if one is asked for.
+fn skip_feed<'a>(rt: &'a HostRuntime, given: &ArgMatches<'a>) -> Option<SkipFeed<'a>> {
+    let name = given.get_str("changes")?;
+    Some(SkipFeed {
+        rt,
+        name,
+        db: word(given, "db"),
+    })
+}
+
+/// A transaction of this GTID, without changes.
+fn without_changes(alloc: Global, gtid: Gtid) -> Result<VecDeque<Delivery>, AllocError>
+    ensures listed { IfOk result (λ list. map delivery_value list.items ≡ record {
+      source = gtid.source;
+      number = gtid.number;
+      changes = [];
+    } ∷ []) }
+{
+    let mut list = VecDeque::new(alloc);
+    list.push_back(Delivery {
+        gtid,
+        changes: Changes::new(alloc),
+    })?;
+    Ok(list)
+}
+
+/// Applies a transaction without changes to the database in a file, which is opened with its own filter.
+fn record<'a, W: Observer>(
+    rt: &HostRuntime,
+    db: &'a str,
+    gtid: Gtid,
+    observer: &mut W,
+) -> Result<ChangedFile<Infallible, File>, Failure<'a>> {
+    let list = without_changes(rt.alloc(), gtid)?;
+    let none = GtidSet::new(rt.alloc());
+    let opening = opening(rt, db)?;
+    let done = change_file(rt, db, Unknown, None, &none, list, observer);
+    opened(rt, db, opening, done)
+}
+
+/// What the end of it comes to.
+fn outcome<'a>(db: &'a str, end: ChangeEnd<Infallible>) -> Result<(), Failure<'a>> {
+    match end {
+        ChangeEnd::AllGiven => Ok(()),
+        ChangeEnd::NotGiven(never) => match never {},
+        ChangeEnd::Stopped(reason) => Err(failure_of(db, reason)),
+        ChangeEnd::TooMany => Err(Failure::Memory),
+        ChangeEnd::NotAdopted(cause) => Err(Failure::Database { name: db, cause }),
+    }
+}
