@@ -1,8 +1,10 @@
 -- Private: the changes of a transaction, by the sizes of their images and the bytes of these.
-use Rattle.std.specs.Prelude.{◌≡◌, ◌+◌, ◌<◌, ◌≤◌, ◌⊎◌, ℕ, zero, suc, List, [], ◌∷◌, ◌++◌, length, take, drop}
+use Rattle.std.specs.Prelude.{Vec, vec_len, vec_capacity, ◌^◌, ◌≡◌, ◌+◌, ◌<◌, ◌≤◌, ◌⊎◌, ℕ, zero, suc, List, [], ◌∷◌, ◌++◌, length, take, drop}
+use Rattle.std.specs.declared.alloc.Global.{Global}
 use Rattle.binlog.specs.Cell.{CellValue}
+use Rattle.binlog.specs.Rows.{PairValue, inserted, deleted, updated}
 use Rattle.binlog.specs.declared.body.table_map.TableDef.{TableDef}
-use Rattle.gather.specs.Image.{IsImage}
+use Rattle.gather.specs.Image.{image, IsImage}
 use Rattle.gather.specs.ImageCells.{cells_in}
 use Rattle.gather.specs.Transaction.{ChangeValue, insert, delete, update}
 use Rattle.gather.specs.declared.changes.Entry.{Entry}
@@ -24,6 +26,17 @@ change_in e bytes = change_by_size e.table.value e.before e.after (cells_of_imag
 abbrev pub changes_in : List Entry → List ℕ → List ChangeValue
 changes_in [] bytes = []
 changes_in (e ∷ entries) bytes = change_in e bytes ∷ changes_in entries (drop (e.before + e.after) bytes)
+
+-- how many bytes the images of a pair take
+abbrev pub images_size : PairValue → ℕ
+images_size (inserted after) = length (image after)
+images_size (deleted before) = length (image before)
+images_size (updated before after) = length (image before) + length (image after)
+
+-- A change whose images take so many bytes may be refused: they are too many for a size, or there is no room for them,
+-- or for an entry.
+abbrev pub MayBeRefused : ℕ → Vec Entry Global → Vec ℕ Global → Type 0
+MayBeRefused size entries images = (2 ^ 32 ≤ size) ⊎ ((vec_capacity images < vec_len images + size) ⊎ (vec_capacity entries ≤ vec_len entries))
 
 -- An entry of the table with these sizes is appended.
 pub record AddsEntry (table : TableDef) (before after : ℕ) (old new : List Entry) : Type 0 where

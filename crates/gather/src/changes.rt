@@ -1,10 +1,10 @@
 //! The changes of a transaction, held together.
 
-ghost use Rattle.std.specs.Prelude.{◌≡◌, ℕ, [], ◌∷◌, ◌++◌, ◌^◌, ◌≤◌, length, OnOk, OnErr, IfOk, Err};
+ghost use Rattle.std.specs.Prelude.{◌≡◌, ℕ, [], ◌∷◌, ◌++◌, ◌^◌, ◌+◌, ◌<◌, ◌≤◌, ◌⊎◌, length, OnOk, OnErr, IfOk, Err, vec_len, vec_capacity};
 ghost use Rattle.binlog.specs.RowsView.{pair_value};
 ghost use Rattle.gather.specs.Image.{image, HasImage};
 ghost use Rattle.gather.specs.Transaction.{change_of};
-ghost use Rattle.gather.specs.Changes.{changes_in, AreEntries, AddsEntry};
+ghost use Rattle.gather.specs.Changes.{cells_of_image, change_by_size, changes_in, AreEntries, AddsEntry, IsAbsentOrImage, images_size, MayBeRefused};
 ghost use Rattle.gather.specs.OpenTransaction.{table_of, HasImages};
 ghost use Rattle.gather.specs.declared.fault.GatherFault.TheVariants.{Memory};
 
@@ -157,23 +157,51 @@ impl Changes {
         ensures err { OnErr result (result ≡ Err GatherFault.Memory) }
         ensures kept { OnErr result (self.new ≡ self.old) }
     {
-        let entry = Entry {
-            table: table.clone()?,
-            before: size_of(before)?,
-            after: size_of(after)?,
-        };
-        let start = self.images.len();
-        self.images.extend_from_slice(before)?;
-        if self.images.extend_from_slice(after).is_err() {
-            self.images.truncate(start);
-            return Err(GatherFault::Memory);
-        }
-        if self.entries.push(entry).is_err() {
-            self.images.truncate(start);
-            return Err(GatherFault::Memory);
-        }
-        Ok(())
+        let table = table.clone()?;
+        append_change(table, before, after, &mut self.entries, &mut self.images)
     }
+}
+
+/// Appends the entry of a change of the table, and its images, of which one may be absent. The only error is `Memory`,
+/// which comes only where there is no room, and leaves both vectors as they were.
+fn append_change(
+    table: Rc<TableDef>,
+    before: &[u8],
+    after: &[u8],
+    entries: &mut Vec<Entry>,
+    images: &mut Vec<u8>,
+) -> Result<(), GatherFault>
+    requires entries { AreEntries entries.old.items images.old.items }
+    requires before { IsAbsentOrImage before.now }
+    requires after { IsAbsentOrImage after.now }
+    requires some { 0 < length before.now + length after.now }
+    ensures entries { AreEntries entries.new.items images.new.items }
+    ensures ok { OnOk result (changes_in entries.new.items images.new.items
+        ≡ changes_in entries.old.items images.old.items ++ change_by_size table.value
+        (length before.now) (length after.now) (cells_of_image before.now)
+        (cells_of_image after.now) ∷ []) }
+    ensures err { OnErr result (result ≡ Err Memory) }
+    ensures kept { OnErr result ((entries.new.items ≡ entries.old.items)
+        × (images.new.items ≡ images.old.items)) }
+    ensures full { OnErr result (MayBeRefused (length before.now + length after.now)
+        entries.old images.old) }
+{
+    let entry = Entry {
+        table,
+        before: size_of(before)?,
+        after: size_of(after)?,
+    };
+    let start = images.len();
+    images.extend_from_slice(before)?;
+    if images.extend_from_slice(after).is_err() {
+        images.truncate(start);
+        return Err(GatherFault::Memory);
+    }
+    if entries.push(entry).is_err() {
+        images.truncate(start);
+        return Err(GatherFault::Memory);
+    }
+    Ok(())
 }
 
 /// Appends the entry of a pair of rows, and its images, or a part of these.
@@ -190,6 +218,28 @@ fn push_pair(
         ≡ changes_in entries.old.items images.old.items ++ change_of (table_of id table.now)
         (pair_value pair.now) ∷ [])) }
     ensures err { OnErr result (result ≡ Err Memory) }
+{
+    let table = table.clone()?;
+    append_pair(table, pair, entries, images)
+}
+
+/// Appends the entry of a pair of rows of the table, and its images, or a part of these. The only error is `Memory`,
+/// which comes only where there is no room.
+fn append_pair(
+    table: Rc<TableDef>,
+    pair: &RowPair<'_>,
+    entries: &mut Vec<Entry>,
+    images: &mut Vec<u8>,
+) -> Result<(), GatherFault>
+    requires entries { AreEntries entries.old.items images.old.items }
+    requires images { HasImages (pair_value pair.now) }
+    ensures ok { (id : ℕ) → OnOk result (AreEntries entries.new.items images.new.items
+        × (changes_in entries.new.items images.new.items
+        ≡ changes_in entries.old.items images.old.items ++ change_of (table_of id table)
+        (pair_value pair.now) ∷ [])) }
+    ensures err { OnErr result (result ≡ Err Memory) }
+    ensures full { OnErr result (MayBeRefused (images_size (pair_value pair.now))
+        entries.old images.old) }
 {
     match pair {
         RowPair::Insert { after } => {
@@ -210,16 +260,16 @@ fn push_pair(
 
 /// Appends an entry with these sizes.
 fn push_entry(
-    table: &Rc<TableDef>,
+    table: Rc<TableDef>,
     before: u32,
     after: u32,
     entries: &mut Vec<Entry>,
 ) -> Result<(), GatherFault>
-    ensures ok { OnOk result (AddsEntry table.now.value before after entries.old.items
+    ensures ok { OnOk result (AddsEntry table.value before after entries.old.items
         entries.new.items) }
     ensures err { OnErr result (result ≡ Err Memory) }
+    ensures full { OnErr result (vec_capacity entries.old ≤ vec_len entries.old) }
 {
-    let table = table.clone()?;
     entries.push(Entry {
         table,
         before,
@@ -235,6 +285,9 @@ fn push_image(row: &Row<'_>, images: &mut Vec<u8>) -> Result<u32, GatherFault>
     ensures image { OnOk result (images.new.items ≡ images.old.items ++ image row.now) }
     ensures size { IfOk result (λ size. size ≡ length (image row.now)) }
     ensures err { OnErr result (result ≡ Err Memory) }
+    ensures capacity { vec_capacity images.old ≤ vec_capacity images.new }
+    ensures full { OnErr result ((2 ^ 32 ≤ length (image row.now))
+        ⊎ (vec_capacity images.old < vec_len images.old + length (image row.now))) }
 {
     let start = images.len();
     write_row(row, images)?;

@@ -1,6 +1,6 @@
 //! Images written as bytes.
 
-ghost use Rattle.std.specs.Prelude.{◌≡◌, ◌+◌, ◌≤◌, ◌<◌, ◌^◌, ◌/◌, ◌%◌, ◌++◌, ◌↔◌, length, set, IsTrue, OnOk, OnErr, Err, MatchOption};
+ghost use Rattle.std.specs.Prelude.{◌≡◌, ◌+◌, ◌≤◌, ◌<◌, ◌^◌, ◌/◌, ◌%◌, ◌++◌, ◌↔◌, length, set, IsTrue, OnOk, OnErr, Err, MatchOption, vec_len, vec_capacity};
 ghost use Rattle.binlog.specs.Cell.{cell_value, number_cell};
 ghost use Rattle.gather.specs.Image.{cell_image, image, HasCellImage, HasImage};
 ghost use Rattle.gather.specs.ImageCells.{cell_values};
@@ -33,6 +33,8 @@ pub(crate) fn write_cells(cells: &[Cell<'_>], out: &mut Vec<u8>) -> Result<(), G
     requires { HasImage (cell_values cells.now) }
     ensures ok { OnOk result (out.new.items ≡ out.old.items ++ image (cell_values cells.now)) }
     ensures err { OnErr result (result ≡ Err Memory) }
+    ensures full { OnErr result (vec_capacity out.old
+        < vec_len out.old + length (image (cell_values cells.now))) }
 {
     out.extend_from_slice(&(cells.len() as u16).to_le_bytes())?;
     for cell in cells {
@@ -47,6 +49,8 @@ pub(crate) fn write_row(row: &Row<'_>, out: &mut Vec<u8>) -> Result<(), GatherFa
     requires { HasImage row.now }
     ensures ok { OnOk result (out.new.items ≡ out.old.items ++ image row.now) }
     ensures err { OnErr result (result ≡ Err Memory) }
+    ensures capacity { vec_capacity out.old ≤ vec_capacity out.new }
+    ensures full { OnErr result (vec_capacity out.old < vec_len out.old + length (image row.now)) }
 {
     let start = out.len();
     out.extend_from_slice(&[0, 0])?;
@@ -62,8 +66,9 @@ pub(crate) fn write_row(row: &Row<'_>, out: &mut Vec<u8>) -> Result<(), GatherFa
 /// Sets the number of cells of an image that begins at this offset and whose cells are written.
 fn set_count(start: usize, count: u16, out: &mut Vec<u8>)
     requires { start + 2 ≤ length out.old.items }
-    ensures { out.new.items ≡ set (set out.old.items start (count % 256)) (start + 1)
+    ensures counts { out.new.items ≡ set (set out.old.items start (count % 256)) (start + 1)
         (count / 256 % 256) }
+    ensures capacity { vec_capacity out.new ≡ vec_capacity out.old }
 {
     let [low, high] = count.to_le_bytes();
     out[start] = low;
@@ -100,6 +105,9 @@ fn write_cell(cell: Cell<'_>, out: &mut Vec<u8>) -> Result<(), GatherFault>
     requires { HasCellImage (cell_value cell) }
     ensures ok { OnOk result (out.new.items ≡ out.old.items ++ cell_image (cell_value cell.entry)) }
     ensures err { OnErr result (result ≡ Err Memory) }
+    ensures capacity { vec_capacity out.old ≤ vec_capacity out.new }
+    ensures full { OnErr result (vec_capacity out.old
+        < vec_len out.old + length (cell_image (cell_value cell.entry))) }
 {
     match cell {
         Cell::Null => out.push(0)?,
@@ -120,6 +128,9 @@ fn write_number(value: u64, width: u8, out: &mut Vec<u8>) -> Result<(), GatherFa
     ensures ok { OnOk result (out.new.items ≡ out.old.items ++ cell_image
         (number_cell value width)) }
     ensures err { OnErr result (result ≡ Err Memory) }
+    ensures capacity { vec_capacity out.old ≤ vec_capacity out.new }
+    ensures full { OnErr result (vec_capacity out.old
+        < vec_len out.old + length (cell_image (number_cell value width))) }
 {
     let bytes = value.to_le_bytes();
     let [a, b, c, d, e, f, g, h] = bytes;

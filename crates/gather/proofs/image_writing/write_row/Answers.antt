@@ -1,5 +1,10 @@
-use Rattle.std.proofs.Common.{◌≡◌, length, ◌∙◌, arith}
-use Rattle.gather.proofs.ImageParts.{counted, begun}
+use Rattle.std.proofs.Common.{◌≡◌, ◌∷◌, length, ◌∙◌, ap, arith}
+use Rattle.std.specs.Prelude.{flat_map}
+use Rattle.std.proofs.lemmas.List.{length-append}
+use Rattle.std.proofs.lemmas.Result.{err_from_is_err_and}
+use Rattle.binlog.specs.Cell.{cell_value}
+use Rattle.gather.specs.Image.{cell_image}
+use Rattle.gather.proofs.ImageParts.{counted, begun, first_size}
 use Rattle.gather.proofs.image_writing.write_row.Goals as goal
 
 pub set_count-requires : goal.set_count-requires
@@ -10,5 +15,22 @@ set_count-requires c =
 pub returns-clause-ok : goal.returns-clause-ok
 returns-clause-ok c =
     let begins : c.len-start.result ≡ length c.args.out.now.items = omega (arith, c.len-start.ensures) in
-    c.set_count.ensures
+    c.set_count.ensures.counts
     ∙ counted c.args.out.now.items c.loop-cell.out.items c.args.row.now c.loop-cell.cell-iterator c.len-start.result c.loop-cell.count begins c.in-None.ensures.steps.0 c.loop-cell.invariant.2 c.loop-cell.invariant.1
+
+pub returns-in_err-write_cell-clause-capacity : goal.returns-in_err-write_cell-clause-capacity
+returns-in_err-write_cell-clause-capacity c = omega (arith, c.loop-cell.invariant.3, c.write_cell.ensures.capacity)
+
+pub returns-in_err-write_cell-clause-full : goal.returns-in_err-write_cell-clause-full
+returns-in_err-write_cell-clause-full c =
+    let row = c.args.row.now in
+    let old = c.args.out.now in
+    let now = c.loop-cell.out in
+    let left = c.loop-cell.cell-iterator in
+    let size = first_size left c.next.new.self (cell_value c.in-Some.cell) c.in-Some.ensures.steps in
+    let whole = ap length c.loop-cell.invariant.2 in
+    rw (err_from_is_err_and c.from_residual-in_err-write_cell.result c.from_residual-in_err-write_cell.ensures.1).1
+    (omega (arith, size, whole, length-append now.items (flat_map cell_image left), length-append old.items (0 ∷ 0 ∷ flat_map cell_image row), c.in_err-write_cell.ensures.full, c.loop-cell.invariant.3, old.ok, now.ok))
+
+pub returns-clause-capacity : goal.returns-clause-capacity
+returns-clause-capacity c = omega (arith, c.loop-cell.invariant.3, c.set_count.ensures.capacity)

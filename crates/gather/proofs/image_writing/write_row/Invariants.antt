@@ -1,4 +1,4 @@
-use Rattle.std.proofs.Common.{◌≡◌, ◌+◌, ◌∷◌, ◌++◌, length}
+use Rattle.std.proofs.Common.{vec_capacity, ◌≤◌, ◌≡◌, ◌+◌, ◌∷◌, ◌++◌, length}
 use Rattle.std.specs.Prelude.{flat_map}
 use Rattle.gather.specs.Image.{cell_image}
 use Rattle.gather.proofs.ImageParts.{AllHave}
@@ -9,3 +9,4 @@ invariant-loop-cell l =
     AllHave l.cell-iterator
     × (l.count + length l.cell-iterator ≡ length l.row)
     × (l.out.items ++ flat_map cell_image l.cell-iterator ≡ l.fn.out.items ++ 0 ∷ 0 ∷ flat_map cell_image l.row)
+    × (vec_capacity l.fn.out ≤ vec_capacity l.out)
