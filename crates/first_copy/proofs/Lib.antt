@@ -1,9 +1,10 @@
-pub mod NameCodes
-pub mod FieldEnds
-pub mod LineReading
-pub mod TablePlaces
-pub mod DefinedAt
 pub mod Collecting
-pub mod Supplying
-pub mod TextRows
+pub mod DefinedAt
 pub mod FaultsAfter
+pub mod FieldEnds
+mod Hashed
+pub mod LineReading
+pub mod NameCodes
+pub mod Supplying
+pub mod TablePlaces
+pub mod TextRows
