@@ -22,14 +22,12 @@ module _ {S : Type 0} (g : Ghosts S) where
     pub front : List ℕ
     pub bytes_are : bytes ≡ front ++ rest
     pub leads : Leads entry entry_store session store front
-    pub clean : HasCleanDisk (state g store.conn) → HasCleanDisk (state g entry_store.conn)
 
   pub fed_none : (session : Session) (store : Store S g) (bytes : List ℕ) → Fed session store session store bytes bytes
   fed_none session store bytes = record {
     front = [];
     bytes_are = refl;
     leads = λ clean schema was content b o s. subst (λ (l : List ℕ). StandsOver g session store schema was content l o) (sym (append-nil b)) s;
-    clean = λ h. h;
   }
 
   then : (entry : Session) (entry_store : Store S g) (session : Session) (store : Store S g) (after : Session) (new : Store S g) (x y : List ℕ)
@@ -43,7 +41,6 @@ module _ {S : Type 0} (g : Ghosts S) where
     front = f.front ++ take used rest;
     bytes_are = f.bytes_are ∙ ap (λ (l : List ℕ). f.front ++ l) (sym (take-append-drop used rest)) ∙ sym (append_assoc f.front (take used rest) (drop used rest));
     leads = then entry entry_store session store after new f.front (take used rest) f.leads clean k;
-    clean = λ h. f.clean (clean h);
   }
 
   pub fed_all : (entry : Session) (entry_store : Store S g) (session : Session) (store : Store S g) (after : Session) (new : Store S g) (bytes rest : List ℕ)

@@ -17,6 +17,8 @@ use Rattle.replica.specs.Standing.{Stands, GoesOn, HasEnded, end_of, room_of}
 use Rattle.replica.specs.Over.{StandsOver}
 use Rattle.replica.specs.Conn.{Conn, EndsInLast, reported_as}
 use Rattle.replica.specs.Over.{HasReadOf}
+use Rattle.replica.specs.Keeps.{KeepsStore}
+use Rattle.replica.proofs.Keeps.{store_then}
 use Rattle.replica.proofs.Runs.{read_all}
 use Rattle.replica.proofs.Followed.{unended}
 
@@ -40,29 +42,24 @@ module _ {S : Type 0} (g : Ghosts S) where
     pub read : List ℕ
     pub consumes : Consumes left left' read
     pub limit_is : session.config.limit ≡ limit
-    pub following : store.following ≡ entry.following
-    pub broken : entry.broken ≡ true → store ≡ entry
-    pub clean : HasCleanDisk (state g store.conn) → HasCleanDisk (state g entry.conn)
+    pub keeps : KeepsStore g entry store
     pub stands : HasCleanDisk (state g store.conn) → (was : Bool) (old : Content) → HoldsAs g was old entry → StandsOver g session store (state g entry.conn).now.schema was old (first ++ read) []
     pub last : HasCleanDisk (state g store.conn) → (was : Bool) (old : Content) → HoldsAs g was old entry → (read ≡ []) ⊎ EndsInLast limit most entry.following was old first read
 
   -- more bytes were taken, and the session was fed with them
   pub taking_more : (limit most : ℕ) (first : List ℕ) (entry : Store S g) (session : Session) (store : Store S g) (left left' : Option (List ℕ)) (after : Session) (new : Store S g) (left'' : Option (List ℕ)) (piece : List ℕ)
-      → IsTaking limit most first entry session store left left' → session.ended ≡ None → length piece ≤ most → Consumes left' left'' piece → after.config ≡ session.config → new.following ≡ store.following → (store.broken ≡ true → new ≡ store)
-      → (HasCleanDisk (state g new.conn) → HasCleanDisk (state g store.conn))
+      → IsTaking limit most first entry session store left left' → session.ended ≡ None → length piece ≤ most → Consumes left' left'' piece → after.config ≡ session.config → KeepsStore g store new
       → (HasCleanDisk (state g new.conn) → (schema : Schema) (was : Bool) (old : Content) (b o : List ℕ) → StandsOver g session store schema was old b o → StandsOver g after new schema was old (b ++ piece) o)
       → IsTaking limit most first entry after new left left''
-  taking_more limit most first entry session store left left' after new left'' piece t going within consumes config following broken clean leads = record {
+  taking_more limit most first entry session store left left' after new left'' piece t going within consumes config keeps leads = record {
     read = t.read ++ piece;
     consumes = Consumes-trans left left' left'' t.read piece t.consumes consumes;
     limit_is = ap (λ s. s.limit) config ∙ t.limit_is;
-    following = following ∙ t.following;
-    broken = λ h. broken (ap (λ (s : Store S g). s.broken) (t.broken h) ∙ h) ∙ t.broken h;
-    clean = λ h. t.clean (clean h);
+    keeps = store_then g t.keeps keeps;
     stands = λ h was old holds. subst (λ (l : List ℕ). StandsOver g after new (state g entry.conn).now.schema was old l []) (append_assoc first t.read piece)
-        (leads h (state g entry.conn).now.schema was old (first ++ t.read) [] (t.stands (clean h) was old holds));
+        (leads h (state g entry.conn).now.schema was old (first ++ t.read) [] (t.stands (keeps.clean h) was old holds));
     last = λ h was old holds.
-        let s = t.stands (clean h) was old holds in
+        let s = t.stands (keeps.clean h) was old holds in
         inr (record {
           front = t.read;
           last = piece;
@@ -71,7 +68,7 @@ module _ {S : Type 0} (g : Ghosts S) where
           now = s.now;
           end = end_of session;
           unended = subst (λ (n : ℕ). Conn n entry.following was old (first ++ t.read) s.now (reported_as EndOfInput (end_of session))) t.limit_is
-              (unended g session entry store (state g entry.conn).now.schema was old (first ++ t.read) [] t.following going s);
+              (unended g session entry store (state g entry.conn).now.schema was old (first ++ t.read) [] t.keeps.following going s);
         });
   }
 
@@ -82,7 +79,7 @@ module _ {S : Type 0} (g : Ghosts S) where
   taken limit most first entry session store left left' left'' was old end t keeps end_is clean holds = record {
     read = t.read;
     consumes = Consumes-kept left left' left'' t.read t.consumes keeps;
-    has_read = read_all g session entry store limit was old (first ++ t.read) [] end t.limit_is t.following end_is (t.stands clean was old holds);
+    has_read = read_all g session entry store limit was old (first ++ t.read) [] end t.limit_is t.keeps.following end_is (t.stands clean was old holds);
     last = t.last clean was old holds;
   }
 

@@ -23,6 +23,7 @@ pub mod Observed
 pub mod MissingSets
 pub mod Noted
 pub mod Missing
+pub mod Keeps
 pub mod Followed
 pub mod Left
 pub mod FromReader

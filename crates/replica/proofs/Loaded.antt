@@ -97,8 +97,8 @@ module _ {S : Type 0} (g : StoreGhosts S) where
     leaves = record { each = λ trees may. (old, subst (λ n. AreOf (state g before.conn).now.schema n old trees) (sym later) (crash trees may), inl refl) };
   }
 
-  pub led_nowhere : (before after : Store S g) (old : Content) (account : Account) → Holds g after old → IsLedTo g before after false old account account []
-  led_nowhere before after old account holds = record { now_broken = false; new = old; holds = holds; noted_of = nothing_noted before.following old account account refl (λ on. on) (waits_none account.waits) }
+  pub led_unloaded : (before after : Store S g) (old : Content) (account : Account) → Holds g after old → IsLedTo g before after false old account account []
+  led_unloaded before after old account holds = record { now_broken = false; new = old; holds = holds; noted_of = nothing_noted before.following old account account refl (λ on. on) (waits_none account.waits) }
 
 module _ {D : Type 0} (g : Ghosts D) (names : Names) (old : Content) (opened after : Store (FileStore D g) over_files) where
   pub loaded_into : {E : Type 0} (only : Names) (left : Supply) (ids : Ids) (first : Id) (tables : Names) (applied : ℕ) (end : LoadEnd E) (closed : Result (Files D) (Error × FileStore D g))

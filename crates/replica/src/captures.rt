@@ -3,10 +3,11 @@
 ghost use Rattle.std.specs.Prelude.{◌≡◌, ◌≢◌, ◌<◌, ◌≤◌, [], Bool, true, false, length, vec_capacity, IfOk, IfErr, Ok, Err, All};
 ghost use Rattle.sqlite.specs.State.{HasCleanDisk};
 ghost use Rattle.store.specs.State.{Content};
-ghost use Rattle.store.specs.Store.{HoldsAs, IsBroken, database, names_of};
+ghost use Rattle.store.specs.Store.{HoldsAs, database};
 ghost use Rattle.replica.specs.Capture.{HasReadOne, HasBrokenOff, Reads};
 ghost use Rattle.replica.specs.Over.{HasReadAll};
-ghost use Rattle.replica.specs.Noted.{IsLedOver, IsLedSinceOpening, MayEnd};
+ghost use Rattle.replica.specs.Noted.{MayEnd};
+ghost use Rattle.replica.specs.Keeps.{KeepsObserved, KeepsSinceOpening};
 
 use crate::config::Config;
 use crate::end::{Ended, Reason};
@@ -54,17 +55,8 @@ fn read_capture<R: Read + Drop, S: Alter, W: Observer>(
         → HasBrokenOff S.Store R.Read.remaining config.now.limit store.old store.new was old
         capture) }
     ensures may_end { IfOk result (λ end. MayEnd end.reason (W.account observer.new)) }
-    ensures stays { (W.account observer.old).has_stopped ≡ true
-        → (W.account observer.new).has_stopped ≡ true }
-    ensures notes { HasCleanDisk (database S.Store store.new) → (was : Bool) (old : Content)
-        → HoldsAs S.Store was old store.old → IsLedOver S.Store store.old store.new was old
-        (W.account observer.old) (W.account observer.new) [] }
-    ensures heeds { (is : Bool) (now : Content) → HoldsAs S.Store is now store.old
-        → (W.account observer.old).has_stopped ≡ true → store.new ≡ store.old }
-    ensures following { names_of S.Store store.new ≡ names_of S.Store store.old }
-    ensures broken { IsBroken S.Store store.old → store.new ≡ store.old }
-    ensures clean { HasCleanDisk (database S.Store store.new)
-        → HasCleanDisk (database S.Store store.old) }
+    ensures keeps { KeepsObserved S.Store store.old store.new (W.account observer.old)
+        (W.account observer.new) [] }
 {
     let Capture {
         first,
@@ -108,18 +100,11 @@ pub(crate) fn read_captures<R: Read + Drop, S: Alter, W: Observer>(
     ensures heeds { result ≡ Ok tt → ends.new.items ≢ []
         → (W.account observer.new).has_stopped ≡ false }
     ensures no_more { (W.account observer.old).has_stopped ≡ true → length ends.new.items ≤ 1 }
-    // What was reported to it leads from the content before to the one afterwards, with the ends of the connections.
-    ensures notes { HasCleanDisk (database S.Store store.new) → (was : Bool) (old : Content)
-        → HoldsAs S.Store was old store.old → IsLedSinceOpening S.Store store.old store.new was old
-        (W.account observer.old) (W.account observer.new) ends.new.items }
-    // If it had stopped before, the store stays as it is.
-    ensures keeps { (is : Bool) (now : Content) → HoldsAs S.Store is now store.old
-        → (W.account observer.old).has_stopped ≡ true → store.new ≡ store.old }
+    // What was reported to it leads from the content before to the one afterwards, with the ends of the connections; if it had
+    // stopped before, the store stays as it is.
+    ensures keeps { KeepsSinceOpening S.Store store.old store.new (W.account observer.old)
+        (W.account observer.new) ends.new.items }
     ensures may_end { All (λ end. MayEnd end.reason (W.account observer.new)) ends.new.items }
-    ensures following { names_of S.Store store.new ≡ names_of S.Store store.old }
-    ensures broken { IsBroken S.Store store.old → store.new ≡ store.old }
-    ensures clean { HasCleanDisk (database S.Store store.new)
-        → HasCleanDisk (database S.Store store.old) }
 {
     observer.opened(store.executed());
     if observer.is_done() {

@@ -1,14 +1,15 @@
 //! Transactions that no connection carries, applied to a store in order.
 
-ghost use Rattle.std.specs.Prelude.{◌≡◌, [], Bool, true, false, IfErr};
+ghost use Rattle.std.specs.Prelude.{◌≡◌, [], true, false, IfErr};
 ghost use Rattle.sqlite.specs.State.{HasCleanDisk};
 ghost use Rattle.gtid.specs.Identifier.{Ids};
 ghost use Rattle.store.specs.State.{Content};
 ghost use Rattle.store.specs.Changes.{adopted};
-ghost use Rattle.store.specs.Store.{Holds, HoldsAs, database, names_of};
-ghost use Rattle.replica.specs.Noted.{IsLedTo, IsLedOver};
+ghost use Rattle.store.specs.Store.{Holds, database, names_of};
+ghost use Rattle.replica.specs.Noted.{IsLedTo};
 ghost use Rattle.replica.specs.Change.{begun_with, IsAdopted, UnlessAdopted, MayStop};
 ghost use Rattle.replica.specs.Changing.{TakesNext, HasChanged};
+ghost use Rattle.replica.specs.Keeps.{KeepsStore, KeepsObserved};
 
 use crate::deliveries::Deliveries;
 use crate::dump::apply;
@@ -45,18 +46,10 @@ fn take_next<S: Alter, I: Deliveries, W: Observer>(
     ensures takes { HasCleanDisk (database S.Store store.new) → (now : Content)
         → Holds S.Store store.old now → TakesNext S.Store now store.old store.new
         (I.supply deliveries.old) (I.supply deliveries.new) result }
-    ensures notes { HasCleanDisk (database S.Store store.new) → (was : Bool) (old : Content)
-        → HoldsAs S.Store was old store.old → IsLedOver S.Store store.old store.new was old
-        (W.account observer.old) (W.account observer.new) [] }
+    ensures keeps { KeepsObserved S.Store store.old store.new (W.account observer.old)
+        (W.account observer.new) [] }
     ensures asked { IfErr result (λ end. MayStop end (W.account observer.new)) }
     ensures begun { IfErr result IsAdopted }
-    ensures heeds { (is : Bool) (now : Content) → HoldsAs S.Store is now store.old
-        → (W.account observer.old).has_stopped ≡ true → store.new ≡ store.old }
-    ensures stays { (W.account observer.old).has_stopped ≡ true
-        → (W.account observer.new).has_stopped ≡ true }
-    ensures following { names_of S.Store store.new ≡ names_of S.Store store.old }
-    ensures clean { HasCleanDisk (database S.Store store.new)
-        → HasCleanDisk (database S.Store store.old) }
 {
     let delivery = match deliveries.next() {
         Ok(Some(delivery)) => delivery,
@@ -80,16 +73,10 @@ fn apply_all<S: Alter, I: Deliveries, W: Observer>(
         → Holds S.Store store.old (adopted old ids)
         → HasChanged S.Store (names_of S.Store store.old) store.new old ids
         (I.supply deliveries.old) result.0 result.1 }
-    ensures notes { HasCleanDisk (database S.Store store.new) → (was : Bool) (old : Content)
-        → HoldsAs S.Store was old store.old → IsLedOver S.Store store.old store.new was old
-        (W.account observer.old) (W.account observer.new) [] }
+    ensures keeps { KeepsObserved S.Store store.old store.new (W.account observer.old)
+        (W.account observer.new) [] }
     ensures asked { MayStop result.1 (W.account observer.new) }
     ensures begun { IsAdopted result.1 }
-    ensures heeds { (is : Bool) (now : Content) → HoldsAs S.Store is now store.old
-        → (W.account observer.old).has_stopped ≡ true → store.new ≡ store.old }
-    ensures following { names_of S.Store store.new ≡ names_of S.Store store.old }
-    ensures clean { HasCleanDisk (database S.Store store.new)
-        → HasCleanDisk (database S.Store store.old) }
 {
     let mut applied = 0u64;
     // A `for`, since the prover asks that each loop ends.
@@ -125,9 +112,7 @@ pub(crate) fn change<S: Alter, I: Deliveries, W: Observer>(
     ensures heeds { HasCleanDisk (database S.Store store.new) → (old : Content)
         → Holds S.Store store.old old → (W.account observer.old).has_stopped ≡ true
         → IsAdopted result.1 → Holds S.Store store.new (adopted old gtids.now) }
-    ensures following { names_of S.Store store.new ≡ names_of S.Store store.old }
-    ensures clean { HasCleanDisk (database S.Store store.new)
-        → HasCleanDisk (database S.Store store.old) }
+    ensures keeps { KeepsStore S.Store store.old store.new }
 {
     match store.adopt(gtids) {
         Ok(()) => {

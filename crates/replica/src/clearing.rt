@@ -9,6 +9,7 @@ ghost use Rattle.store.specs.Store.{Holds, database, names_of};
 ghost use Rattle.replica.specs.Clear.{is_in_table, MayEndClear};
 ghost use Rattle.replica.specs.Over.{HasStayed};
 ghost use Rattle.replica.specs.Clearing.{TakesRow, gathered_of, ListsDeletes, end_by, HasCleared, IsClearedSinceOpening};
+ghost use Rattle.replica.specs.Keeps.{KeepsStore};
 
 use crate::connections::NoMemory;
 use crate::dump::apply;
@@ -123,9 +124,7 @@ fn list_deletes<S: Alter>(
     ensures lists { HasCleanDisk (database S.Store store.new) → (content : Content)
         → Holds S.Store store.old content
         → ListsDeletes S.Store schema.now table.now content store.new result }
-    ensures following { names_of S.Store store.new ≡ names_of S.Store store.old }
-    ensures clean { HasCleanDisk (database S.Store store.new)
-        → HasCleanDisk (database S.Store store.old) }
+    ensures keeps { KeepsStore S.Store store.old store.new }
 {
     let table = match table_named(alloc, schema, table) {
         Ok(table) => table,
@@ -173,9 +172,7 @@ pub(crate) fn clear<S: Alter, W: Observer>(
     ensures heeds { HasCleanDisk (database S.Store store.new) → (old : Content)
         → Holds S.Store store.old old → (W.account observer.old).has_stopped ≡ true
         → HasStayed S.Store store.new old (λ left. left ≡ old) }
-    ensures following { names_of S.Store store.new ≡ names_of S.Store store.old }
-    ensures clean { HasCleanDisk (database S.Store store.new)
-        → HasCleanDisk (database S.Store store.old) }
+    ensures keeps { KeepsStore S.Store store.old store.new }
 {
     observer.opened(store.executed());
     if store.executed().contains(gtid) {

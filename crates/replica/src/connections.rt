@@ -3,10 +3,11 @@
 ghost use Rattle.std.specs.Prelude.{◌≡◌, Bool, IsErr, IfOk, All};
 ghost use Rattle.sqlite.specs.State.{HasCleanDisk};
 ghost use Rattle.store.specs.State.{Content};
-ghost use Rattle.store.specs.Store.{HoldsAs, database, names_of, IsBroken};
+ghost use Rattle.store.specs.Store.{HoldsAs, database};
 ghost use Rattle.replica.specs.Conn.{IsOwn};
 ghost use Rattle.replica.specs.Pieces.{stream_of, streams_of};
 ghost use Rattle.replica.specs.Over.{HasRead, HasReadAll};
+ghost use Rattle.replica.specs.Keeps.{KeepsStore};
 
 use crate::config::Config;
 use crate::end::{Ended, Reason};
@@ -26,11 +27,8 @@ fn read_pieces<S: Alter>(config: Config, store: &mut Store<S>, pieces: &[Vec<u8>
     ensures read { HasCleanDisk (database S.Store store.new) → (was : Bool) (old : Content)
         → HoldsAs S.Store was old store.old → HasRead S.Store config.limit store.old store.new was
         old (stream_of pieces.now) result }
-    ensures following { names_of S.Store store.new ≡ names_of S.Store store.old }
-    ensures broken { IsBroken S.Store store.old → store.new ≡ store.old }
+    ensures keeps { KeepsStore S.Store store.old store.new }
     ensures may_end { IsOwn result.reason }
-    ensures clean { HasCleanDisk (database S.Store store.new)
-        → HasCleanDisk (database S.Store store.old) }
 {
     let mut session = Session::new(config);
     for piece in pieces {
@@ -44,11 +42,8 @@ fn read_connection<S: Alter>(config: &Config, store: &mut Store<S>, pieces: &[Ve
     ensures read { HasCleanDisk (database S.Store store.new) → (was : Bool) (old : Content)
         → HoldsAs S.Store was old store.old → HasRead S.Store config.now.limit store.old store.new
         was old (stream_of pieces.now) result }
-    ensures following { names_of S.Store store.new ≡ names_of S.Store store.old }
-    ensures broken { IsBroken S.Store store.old → store.new ≡ store.old }
+    ensures keeps { KeepsStore S.Store store.old store.new }
     ensures may_end { IsOwn result.reason }
-    ensures clean { HasCleanDisk (database S.Store store.new)
-        → HasCleanDisk (database S.Store store.old) }
 {
     match config.copy() {
         Ok(config) => read_pieces(config, store, pieces),
@@ -74,13 +69,10 @@ pub fn run<S: Alter>(
         → (was : Bool) (old : Content) → HoldsAs S.Store was old store.old
         → HasReadAll S.Store config.now.limit store.new
         (database S.Store store.old).now.schema was old (streams_of connections.now) ends.items) }
-    ensures following { names_of S.Store store.new ≡ names_of S.Store store.old }
-    // A store that has failed stays as it is.
-    ensures broken { IsBroken S.Store store.old → store.new ≡ store.old }
+    // It follows the same tables, and a store that has failed stays as it is.
+    ensures keeps { KeepsStore S.Store store.old store.new }
     ensures may_end { IfOk result (λ ends. All (λ end. IsOwn end.reason) ends.items) }
     ensures untouched { IsErr result → store.new ≡ store.old }
-    ensures clean { HasCleanDisk (database S.Store store.new)
-        → HasCleanDisk (database S.Store store.old) }
 {
     let Ok(mut ends) = Vec::with_capacity(alloc, connections.len()) else {
         return Err(NoMemory);

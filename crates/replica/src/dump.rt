@@ -8,7 +8,7 @@ ghost use Rattle.gather.specs.Transaction.{DeliveryValue};
 ghost use Rattle.gather.specs.Standing.{HasGathered as Gathers};
 ghost use Rattle.gather.specs.View.{delivery_value, delivered};
 ghost use Rattle.store.specs.State.{Content};
-ghost use Rattle.store.specs.Store.{Holds, HoldsAs, database, names_of, IsBroken};
+ghost use Rattle.store.specs.Store.{Holds, HoldsAs, database, names_of};
 ghost use Rattle.wire.specs.Payload.{Payload};
 ghost use Rattle.gather.specs.declared.gatherer.Gatherer.{Gatherer};
 ghost use Rattle.replica.specs.PayloadStep.{EndsDump, GathersMore, outcome_of, reason_of_events};
@@ -17,8 +17,9 @@ ghost use Rattle.store.specs.Changes.{is_executed};
 ghost use Rattle.replica.specs.Conn.{IsOwn};
 ghost use Rattle.replica.specs.Alone.{TakesAlone, IsOwnOrHalted};
 ghost use Rattle.replica.specs.Event.{TakesEvent};
-ghost use Rattle.replica.specs.Noted.{HasBeenNoted, StillWaits, asked_about, IsLedOver, MayEnd};
+ghost use Rattle.replica.specs.Noted.{HasBeenNoted, StillWaits, asked_about, MayEnd};
 ghost use Rattle.replica.specs.Missing.{waits_for_none};
+ghost use Rattle.replica.specs.Keeps.{KeepsObserved};
 
 use crate::end::{Reason, Refusal};
 use crate::message::reported;
@@ -131,20 +132,11 @@ pub(crate) fn apply<S: Alter, W: Observer>(
     delivery: &Delivery,
     observer: &mut W,
 ) -> Result<bool, Reason>
-    ensures clean { HasCleanDisk (database S.Store store.new)
-        → HasCleanDisk (database S.Store store.old) }
+    // Once the observer has stopped, the store stays as it is, and what was reported to it leads from the content before to
+    // the one afterwards.
+    ensures keeps { KeepsObserved S.Store store.old store.new (W.account observer.old)
+        (W.account observer.new) [] }
     ensures may_end { IfErr result (λ reason. MayEnd reason (W.account observer.new)) }
-    ensures stays { (W.account observer.old).has_stopped ≡ true
-        → (W.account observer.new).has_stopped ≡ true }
-    // Once the observer has stopped, the store stays as it is.
-    ensures heeds { (is : Bool) (now : Content) → HoldsAs S.Store is now store.old
-        → (W.account observer.old).has_stopped ≡ true → store.new ≡ store.old }
-    // What was reported to the observer leads from the content before to the one afterwards.
-    ensures notes { HasCleanDisk (database S.Store store.new) → (was : Bool) (old : Content)
-        → HoldsAs S.Store was old store.old → IsLedOver S.Store store.old store.new was old
-        (W.account observer.old) (W.account observer.new) [] }
-    ensures following { names_of S.Store store.new ≡ names_of S.Store store.old }
-    ensures broken { IsBroken S.Store store.old → store.new ≡ store.old }
     ensures step { HasCleanDisk (database S.Store store.new)
         → (is : Bool) (now : Content) (es : List EventValue) (ds : List DeliveryValue) (p : Payload)
         (gatherer : Gatherer) → HoldsAs S.Store is now store.old
@@ -174,20 +166,9 @@ pub(crate) fn take_event<S: Alter, W: Observer>(
     payload: &[u8],
     observer: &mut W,
 ) -> Result<bool, Reason>
-    ensures clean { HasCleanDisk (database S.Store store.new)
-        → HasCleanDisk (database S.Store store.old) }
+    ensures keeps { KeepsObserved S.Store store.old store.new (W.account observer.old)
+        (W.account observer.new) [] }
     ensures may_end { IfErr result (λ reason. MayEnd reason (W.account observer.new)) }
-    ensures stays { (W.account observer.old).has_stopped ≡ true
-        → (W.account observer.new).has_stopped ≡ true }
-    // Once the observer has stopped, the store stays as it is.
-    ensures heeds { (is : Bool) (now : Content) → HoldsAs S.Store is now store.old
-        → (W.account observer.old).has_stopped ≡ true → store.new ≡ store.old }
-    // What was reported to the observer leads from the content before to the one afterwards.
-    ensures notes { HasCleanDisk (database S.Store store.new) → (was : Bool) (old : Content)
-        → HoldsAs S.Store was old store.old → IsLedOver S.Store store.old store.new was old
-        (W.account observer.old) (W.account observer.new) [] }
-    ensures following { names_of S.Store store.new ≡ names_of S.Store store.old }
-    ensures broken { IsBroken S.Store store.old → store.new ≡ store.old }
     ensures step { HasCleanDisk (database S.Store store.new)
         → (is : Bool) (now : Content) (es : List EventValue) (ds : List DeliveryValue)
         → Gathers es ds gatherer.old → HoldsAs S.Store is now store.old

@@ -1,6 +1,6 @@
 //! Reading a connection.
 
-ghost use Rattle.std.specs.Prelude.{◌≡◌, ◌↔◌, ℕ, ◌+◌, ◌<◌, ◌≤◌, ◌++◌, [], List, length, Bool, true, IsErr, IsSome, IfSome, option_map, None};
+ghost use Rattle.std.specs.Prelude.{◌≡◌, ◌↔◌, ℕ, ◌+◌, ◌<◌, ◌≤◌, ◌++◌, [], List, length, Bool, IsErr, IsSome, IfSome, option_map, None};
 ghost use Rattle.sqlite.specs.State.{HasCleanDisk};
 ghost use Rattle.sqlite_schema.specs.declared.schema.Schema.{Schema};
 ghost use Rattle.binlog.specs.Filter.{Names};
@@ -10,8 +10,9 @@ ghost use Rattle.replica.specs.Sent.{SentFor};
 ghost use Rattle.replica.specs.Standing.{Stands, end_of, room_of, taken_of};
 ghost use Rattle.replica.specs.Over.{StandsOver};
 ghost use Rattle.replica.specs.PayloadStep.{reason_of};
-ghost use Rattle.store.specs.Store.{HoldsAs, database, names_of, IsBroken};
-ghost use Rattle.replica.specs.Noted.{IsLedOver, MayEnd};
+ghost use Rattle.store.specs.Store.{database};
+ghost use Rattle.replica.specs.Noted.{MayEnd};
+ghost use Rattle.replica.specs.Keeps.{KeepsStore, KeepsObserved};
 
 use crate::config::Config;
 use crate::end::{Ended, Reason};
@@ -76,11 +77,8 @@ impl Session {
             → (schema : Schema) (was : Bool) (old : Content) (b o : List ℕ)
             → StandsOver S.Store self.old store.old schema was old b o
             → StandsOver S.Store self.new store.new schema was old (b ++ bytes.now) o }
-        ensures following { names_of S.Store store.new ≡ names_of S.Store store.old }
-        // A store that has failed stays as it is.
-        ensures broken { IsBroken S.Store store.old → store.new ≡ store.old }
-        ensures clean { HasCleanDisk (database S.Store store.new)
-            → HasCleanDisk (database S.Store store.old) }
+        // It follows the same tables, and a store that has failed stays as it is.
+        ensures keeps { KeepsStore S.Store store.old store.new }
         ensures config { self.new.config ≡ self.old.config }
         ensures may_end { IsOwn (end_of self.old).reason → IsOwn (end_of self.new).reason }
         ensures stopped { IsErr result ↔ IsSome self.old.ended }
@@ -103,23 +101,14 @@ impl Session {
             → (schema : Schema) (was : Bool) (old : Content) (b o : List ℕ)
             → StandsOver S.Store self.old store.old schema was old b o
             → StandsOver S.Store self.new store.new schema was old (b ++ bytes.now) o }
-        ensures following { names_of S.Store store.new ≡ names_of S.Store store.old }
-        ensures broken { IsBroken S.Store store.old → store.new ≡ store.old }
-        ensures clean { HasCleanDisk (database S.Store store.new)
-            → HasCleanDisk (database S.Store store.old) }
+        // What was reported to the observer leads from the content before to the one afterwards; once it has stopped, the store
+        // stays as it is.
+        ensures keeps { KeepsObserved S.Store store.old store.new (W.account observer.old)
+            (W.account observer.new) [] }
         ensures config { self.new.config ≡ self.old.config }
         // The connection is halted only if the observer has stopped.
         ensures may_end { MayEnd (end_of self.old).reason (W.account observer.old)
             → MayEnd (end_of self.new).reason (W.account observer.new) }
-        ensures stays { (W.account observer.old).has_stopped ≡ true
-            → (W.account observer.new).has_stopped ≡ true }
-        // What was reported to it leads from the content before to the one afterwards.
-        ensures notes { HasCleanDisk (database S.Store store.new) → (was : Bool) (old : Content)
-            → HoldsAs S.Store was old store.old → IsLedOver S.Store store.old store.new was old
-            (W.account observer.old) (W.account observer.new) [] }
-        // Once it has stopped, the store stays as it is.
-        ensures heeds { (is : Bool) (now : Content) → HoldsAs S.Store is now store.old
-            → (W.account observer.old).has_stopped ≡ true → store.new ≡ store.old }
         ensures stopped { IsErr result ↔ IsSome self.old.ended }
         ensures after { IsSome self.old.ended → (self.new ≡ self.old) × (store.new ≡ store.old) }
         ensures room { self.new.ended ≡ None → room_of self.new + length bytes.now
@@ -149,20 +138,11 @@ impl Session {
             → StandsOver S.Store self.new store.new schema was old
             (b ++ taken_of result bytes.now) o }
         ensures used { IfSome result (λ used. (0 < used) × (used ≤ length bytes.now)) }
-        ensures following { names_of S.Store store.new ≡ names_of S.Store store.old }
-        ensures broken { IsBroken S.Store store.old → store.new ≡ store.old }
-        ensures clean { HasCleanDisk (database S.Store store.new)
-            → HasCleanDisk (database S.Store store.old) }
+        ensures keeps { KeepsObserved S.Store store.old store.new (W.account observer.old)
+            (W.account observer.new) [] }
         ensures config { self.new.config ≡ self.old.config }
         ensures may_end { MayEnd (end_of self.old).reason (W.account observer.old)
             → MayEnd (end_of self.new).reason (W.account observer.new) }
-        ensures stays { (W.account observer.old).has_stopped ≡ true
-            → (W.account observer.new).has_stopped ≡ true }
-        ensures notes { HasCleanDisk (database S.Store store.new) → (was : Bool) (old : Content)
-            → HoldsAs S.Store was old store.old → IsLedOver S.Store store.old store.new was old
-            (W.account observer.old) (W.account observer.new) [] }
-        ensures heeds { (is : Bool) (now : Content) → HoldsAs S.Store is now store.old
-            → (W.account observer.old).has_stopped ≡ true → store.new ≡ store.old }
         ensures room { self.new.ended ≡ None → (self.old.ended ≡ None)
             × (room_of self.new + length (taken_of result bytes.now) ≤ room_of self.old) }
     {

@@ -6,13 +6,14 @@ ghost use Rattle.sqlite.specs.State.{HasCleanDisk};
 ghost use Rattle.gtid.specs.Identifier.{Ids};
 ghost use Rattle.binlog.specs.Filter.{Names};
 ghost use Rattle.store.specs.State.{Content};
-ghost use Rattle.store.specs.Store.{HoldsAs, IsBroken, database, names_of};
+ghost use Rattle.store.specs.Store.{HoldsAs, database};
 ghost use Rattle.store.specs.Entering.{wanted_of, names_for};
 ghost use Rattle.replica.specs.NotedFile.{IsNotedOfFiles, HaveReached};
 ghost use Rattle.replica.specs.File.{FilesHold, IsTurnedAway, ClosesAs, KeepsContent};
 ghost use Rattle.replica.specs.declared.end.Reason.TheVariants.{Until};
-ghost use Rattle.replica.specs.Noted.{IsAsked, IsLedSinceOpening};
+ghost use Rattle.replica.specs.Noted.{IsAsked};
 ghost use Rattle.replica.specs.FollowFile.{Connects, FollowsFile, CountsFailures};
+ghost use Rattle.replica.specs.Keeps.{KeepsSinceOpening};
 
 use crate::config::Config;
 use crate::counted::{Counted, Duplex};
@@ -55,15 +56,8 @@ fn connect_and_follow<
         T.failures (F.post connect) config store.old store.new was old result }
     ensures counts { IfOk result (λ done. CountsFailures done.0 done.1) }
     ensures asked { IfOk result (λ done. IsAsked done.0.reason (W.account observer.new)) }
-    ensures notes { HasCleanDisk (database S.Store store.new) → (was : Bool) (old : Content)
-        → HoldsAs S.Store was old store.old → IsLedSinceOpening S.Store store.old store.new was old
-        (W.account observer.old) (W.account observer.new) [] }
-    ensures heeds { (is : Bool) (now : Content) → HoldsAs S.Store is now store.old
-        → (W.account observer.old).has_stopped ≡ true → store.new ≡ store.old }
-    ensures following { names_of S.Store store.new ≡ names_of S.Store store.old }
-    ensures broken { IsBroken S.Store store.old → store.new ≡ store.old }
-    ensures clean { HasCleanDisk (database S.Store store.new)
-        → HasCleanDisk (database S.Store store.old) }
+    ensures keeps { KeepsSinceOpening S.Store store.old store.new (W.account observer.old)
+        (W.account observer.new) [] }
 {
     observer.opened(store.executed());
     match connect() {

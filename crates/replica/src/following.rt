@@ -5,13 +5,14 @@ ghost use Rattle.std.specs.Io.KnownBytes.{Appends, Consumes, Keeps, IsAtEnd};
 ghost use Rattle.sqlite.specs.State.{HasCleanDisk};
 ghost use Rattle.sqlite_schema.specs.declared.schema.Schema.{Schema};
 ghost use Rattle.store.specs.State.{Content};
-ghost use Rattle.store.specs.Store.{HoldsAs, IsBroken, database, names_of};
+ghost use Rattle.store.specs.Store.{HoldsAs, database};
 ghost use Rattle.replica.specs.Standing.{end_of};
 ghost use Rattle.replica.specs.Over.{StandsOver};
-ghost use Rattle.replica.specs.Noted.{IsLedOver, IsAsked, MayEnd};
+ghost use Rattle.replica.specs.Noted.{IsAsked, MayEnd};
 ghost use Rattle.replica.specs.Missing.{waits_for_none};
 ghost use Rattle.replica.specs.Failing.{HaveFailed};
 ghost use Rattle.replica.specs.Follow.{Follows, HandsOut, sends_no_more_after, reads_failed, turns_left, failed_reads_of, failed_writes_of};
+ghost use Rattle.replica.specs.Keeps.{KeepsStore, KeepsObserved};
 
 use crate::config::Config;
 use crate::counted::{Counted, Duplex};
@@ -114,20 +115,11 @@ fn read_piece<T: Duplex, S: Alter, W: Observer>(
     ensures writes { stream.new.failed_writes ≡ stream.old.failed_writes }
     ensures reported { HaveFailed (T.failures stream.old.stream) (T.failures stream.new.stream)
         (reads_failed result) 0 }
-    ensures following { names_of S.Store store.new ≡ names_of S.Store store.old }
-    ensures broken { IsBroken S.Store store.old → store.new ≡ store.old }
-    ensures clean { HasCleanDisk (database S.Store store.new)
-        → HasCleanDisk (database S.Store store.old) }
+    ensures keeps { KeepsObserved S.Store store.old store.new (W.account observer.old)
+        (W.account observer.new) [] }
     ensures config { session.new.config ≡ session.old.config }
     ensures may_end { MayEnd (end_of session.old).reason (W.account observer.old)
         → MayEnd (end_of session.new).reason (W.account observer.new) }
-    ensures stays { (W.account observer.old).has_stopped ≡ true
-        → (W.account observer.new).has_stopped ≡ true }
-    ensures notes { HasCleanDisk (database S.Store store.new) → (was : Bool) (old : Content)
-        → HoldsAs S.Store was old store.old → IsLedOver S.Store store.old store.new was old
-        (W.account observer.old) (W.account observer.new) [] }
-    ensures heeds { (is : Bool) (now : Content) → HoldsAs S.Store is now store.old
-        → (W.account observer.old).has_stopped ≡ true → store.new ≡ store.old }
     ensures turns { result ≡ Turn.Read → turns_left session.new < turns_left session.old }
     ensures still { result ≢ Turn.Read → (session.new ≡ session.old) × (store.new ≡ store.old)
         × (observer.new ≡ observer.old)
@@ -198,11 +190,8 @@ pub fn follow<T: Duplex, S: Alter>(
     // If the stream reports its own failures, these are they: exactly the one that is reported.
     ensures reported { HaveFailed (T.failures stream.old.stream) (T.failures stream.new.stream)
         (failed_reads_of result.reason) (failed_writes_of result.reason) }
-    ensures following { names_of S.Store store.new ≡ names_of S.Store store.old }
-    // A store that has failed stays as it is.
-    ensures broken { IsBroken S.Store store.old → store.new ≡ store.old }
-    ensures clean { HasCleanDisk (database S.Store store.new)
-        → HasCleanDisk (database S.Store store.old) }
+    // It follows the same tables, and a store that has failed stays as it is.
+    ensures keeps { KeepsStore S.Store store.old store.new }
 {
     follow_observed(alloc, stream, store, config, &mut Unobserved)
 }
@@ -224,17 +213,14 @@ pub fn follow_observed<T: Duplex, S: Alter, W: Observer>(
         (T.Write.contents stream.old.stream) (T.Write.contents stream.new.stream) result }
     // The connection is halted, or ended with `Until`, only if the observer asked for that.
     ensures asked { IsAsked result.reason (W.account observer.new) }
-    // What was reported to it leads from the content before to the one afterwards.
-    ensures notes { HasCleanDisk (database S.Store store.new) → (was : Bool) (old : Content)
-        → HoldsAs S.Store was old store.old → IsLedOver S.Store store.old store.new was old
-        (W.account observer.old) (W.account observer.new) [] }
+    // What was reported to the observer leads from the content before to the one afterwards; once it has stopped, the store
+    // stays as it is.
+    ensures keeps { KeepsObserved S.Store store.old store.new (W.account observer.old)
+        (W.account observer.new) [] }
     // If it waits for nothing, nothing is read or sent.
     ensures until { waits_for_none (W.account observer.old).waits ≡ true
         → (result ≡ record { reason = Reason.Until; at = 0; applied = 0 })
         × (stream.new ≡ stream.old) × (store.new ≡ store.old) × (observer.new ≡ observer.old) }
-    // Once it has stopped, the store stays as it is.
-    ensures heeds { (is : Bool) (now : Content) → HoldsAs S.Store is now store.old
-        → (W.account observer.old).has_stopped ≡ true → store.new ≡ store.old }
     ensures read_failed { (result.reason ≡ Reason.ReadFailed)
         ↔ (stream.old.failed_reads < stream.new.failed_reads) }
     ensures write_failed { (result.reason ≡ Reason.WriteFailed)
@@ -246,10 +232,6 @@ pub fn follow_observed<T: Duplex, S: Alter, W: Observer>(
         ≡ stream.old.failed_writes + failed_writes_of result.reason) }
     ensures reported { HaveFailed (T.failures stream.old.stream) (T.failures stream.new.stream)
         (failed_reads_of result.reason) (failed_writes_of result.reason) }
-    ensures following { names_of S.Store store.new ≡ names_of S.Store store.old }
-    ensures broken { IsBroken S.Store store.old → store.new ≡ store.old }
-    ensures clean { HasCleanDisk (database S.Store store.new)
-        → HasCleanDisk (database S.Store store.old) }
 {
     let mut session = Session::new(config);
     if observer.is_done() {

@@ -11,6 +11,7 @@ ghost use Rattle.store.specs.Store.{AreOf, Holds, database, names_of};
 ghost use Rattle.replica.specs.Copies.{is_of_copy, AreOfCopies, IsAtSet, AreAdmitted, with_first};
 ghost use Rattle.replica.specs.Loading.{IsLookedAt, JudgesCopy, HasLoaded, IsLedByLoad};
 ghost use Rattle.replica.specs.LoadFile.{MayStopLoad, UnlessLoaded};
+ghost use Rattle.replica.specs.Keeps.{KeepsStore};
 
 use crate::changing::{ChangeEnd, change};
 use crate::deliveries::Deliveries;
@@ -188,9 +189,7 @@ fn may_load<S: Alter>(
         → (database S.Store store.new).may_leave trees
         → AreOf (database S.Store store.old).now.schema
         (names_of S.Store store.old) content trees }
-    ensures following { names_of S.Store store.new ≡ names_of S.Store store.old }
-    ensures clean { HasCleanDisk (database S.Store store.new)
-        → HasCleanDisk (database S.Store store.old) }
+    ensures keeps { KeepsStore S.Store store.old store.new }
 {
     if store.executed().contains(first) {
         return Ok(());
@@ -241,9 +240,7 @@ pub(crate) fn load<S: Alter, I: Deliveries, W: Observer>(
         copy.now.gtids.now (id copy.now.first) (W.account observer.old) (W.account observer.new) result.1 }
     ensures asked { MayStopLoad result.1 (W.account observer.new) }
     ensures unreported { UnlessLoaded result.1 (observer.new ≡ observer.old) }
-    ensures following { names_of S.Store store.new ≡ names_of S.Store store.old }
-    ensures clean { HasCleanDisk (database S.Store store.new)
-        → HasCleanDisk (database S.Store store.old) }
+    ensures keeps { KeepsStore S.Store store.old store.new }
 {
     match may_load(alloc, store, copy.gtids, copy.first, copy.tables) {
         Ok(()) => {

@@ -1,6 +1,6 @@
 //! What a session does with a payload.
 
-ghost use Rattle.std.specs.Prelude.{◌≡◌, ◌≢◌, ◌≤◌, ◌<◌, ◌+◌, Bool, List, ℕ, Some, None, true, false, length, [], if◌then◌else◌};
+ghost use Rattle.std.specs.Prelude.{◌≡◌, ◌≢◌, ◌≤◌, ◌<◌, ◌+◌, Bool, List, ℕ, Some, None, false, length, [], if◌then◌else◌};
 ghost use Rattle.sqlite.specs.State.{HasCleanDisk};
 ghost use Rattle.sqlite_schema.specs.declared.schema.Schema.{Schema};
 ghost use Rattle.binlog.specs.Filter.{Names};
@@ -10,9 +10,10 @@ ghost use Rattle.replica.specs.Standing.{Stands, Meets, first_id_of, offset_of, 
 ghost use Rattle.replica.specs.Conn.{IsOwn};
 ghost use Rattle.replica.specs.Over.{StandsOver, MeetsOver};
 ghost use Rattle.replica.specs.declared.phase.Phase.TheVariants as phase;
-ghost use Rattle.store.specs.Store.{HoldsAs, database, names_of, IsBroken};
-ghost use Rattle.replica.specs.Noted.{IsLedOver, MayEnd};
+ghost use Rattle.store.specs.Store.{database};
+ghost use Rattle.replica.specs.Noted.{MayEnd};
 ghost use Rattle.replica.specs.Missing.{waits_for_none};
+ghost use Rattle.replica.specs.Keeps.{KeepsObserved};
 
 use crate::dump::take_event;
 use crate::end::{Ended, Reason};
@@ -120,19 +121,10 @@ impl Session {
         requires in_dump { self.old.phase ≡ phase.Dump }
         requires between { self.old.assembler.held ≡ [] }
         requires after { self.old.at < end }
-        ensures clean { HasCleanDisk (database S.Store store.new)
-            → HasCleanDisk (database S.Store store.old) }
-        ensures following { names_of S.Store store.new ≡ names_of S.Store store.old }
-        ensures broken { IsBroken S.Store store.old → store.new ≡ store.old }
+        ensures keeps { KeepsObserved S.Store store.old store.new (W.account observer.old)
+            (W.account observer.new) [] }
         ensures config { self.new.config ≡ self.old.config }
         ensures may_end { MayEnd (end_of self.new).reason (W.account observer.new) }
-        ensures stays { (W.account observer.old).has_stopped ≡ true
-            → (W.account observer.new).has_stopped ≡ true }
-        ensures notes { HasCleanDisk (database S.Store store.new) → (was : Bool) (old : Content)
-            → HoldsAs S.Store was old store.old → IsLedOver S.Store store.old store.new was old
-            (W.account observer.old) (W.account observer.new) [] }
-        ensures heeds { (is : Bool) (now : Content) → HoldsAs S.Store is now store.old
-            → (W.account observer.old).has_stopped ≡ true → store.new ≡ store.old }
         ensures further { self.new.ended ≡ None → (self.new.at ≡ end)
             × (self.new.assembler.held ≡ []) }
         // It does not go on after a transaction that was applied, if the observer waits for nothing more.
@@ -171,19 +163,10 @@ impl Session {
     )
         requires going { self.old.ended ≡ None }
         requires between { (self.old.assembler.held ≡ []) × (self.old.assembler.ended ≡ false) }
-        ensures clean { HasCleanDisk (database S.Store store.new)
-            → HasCleanDisk (database S.Store store.old) }
-        ensures following { names_of S.Store store.new ≡ names_of S.Store store.old }
-        ensures broken { IsBroken S.Store store.old → store.new ≡ store.old }
+        ensures keeps { KeepsObserved S.Store store.old store.new (W.account observer.old)
+            (W.account observer.new) [] }
         ensures config { self.new.config ≡ self.old.config }
         ensures may_end { MayEnd (end_of self.new).reason (W.account observer.new) }
-        ensures stays { (W.account observer.old).has_stopped ≡ true
-            → (W.account observer.new).has_stopped ≡ true }
-        ensures notes { HasCleanDisk (database S.Store store.new) → (was : Bool) (old : Content)
-            → HoldsAs S.Store was old store.old → IsLedOver S.Store store.old store.new was old
-            (W.account observer.old) (W.account observer.new) [] }
-        ensures heeds { (is : Bool) (now : Content) → HoldsAs S.Store is now store.old
-            → (W.account observer.old).has_stopped ≡ true → store.new ≡ store.old }
         ensures room { self.new.ended ≡ None → room_of self.new + packing_length
             (length payload.now) ≤ room_of self.old }
         ensures takes { HasCleanDisk (database S.Store store.new)

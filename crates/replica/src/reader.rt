@@ -1,15 +1,16 @@
 //! A connection that is read from a file.
 
-ghost use Rattle.std.specs.Prelude.{◌≡◌, ◌<◌, [], Bool, true, length, IfOk, IfErr};
+ghost use Rattle.std.specs.Prelude.{◌≡◌, ◌<◌, [], Bool, length, IfOk, IfErr};
 ghost use Rattle.std.specs.Io.{ReadsAtMost};
 ghost use Rattle.std.specs.Io.KnownBytes.{ReadConsumes, IsAtEnd};
 ghost use Rattle.sqlite.specs.State.{HasCleanDisk};
 ghost use Rattle.store.specs.State.{Content};
-ghost use Rattle.store.specs.Store.{HoldsAs, IsBroken, database, names_of};
+ghost use Rattle.store.specs.Store.{HoldsAs, database};
 ghost use Rattle.replica.specs.declared.end.Reason.TheVariants.{EndOfInput};
 ghost use Rattle.replica.specs.declared.end.Ended.{Ended as End};
 ghost use Rattle.replica.specs.Over.{HasReadOf};
-ghost use Rattle.replica.specs.Noted.{IsLedOver, MayEnd};
+ghost use Rattle.replica.specs.Noted.{MayEnd};
+ghost use Rattle.replica.specs.Keeps.{KeepsObserved};
 
 use crate::config::Config;
 use crate::end::Ended;
@@ -68,20 +69,10 @@ pub fn read_stream<R: Read, S: Alter, W: Observer>(
         (R.remaining reader.old) (R.remaining reader.new) end) }
     // The connection is halted only if the observer has stopped.
     ensures may_end { IfOk result (λ end. MayEnd end.reason (W.account observer.new)) }
-    ensures stays { (W.account observer.old).has_stopped ≡ true
-        → (W.account observer.new).has_stopped ≡ true }
-    // What was reported to it leads from the content before to the one afterwards.
-    ensures notes { HasCleanDisk (database S.Store store.new) → (was : Bool) (old : Content)
-        → HoldsAs S.Store was old store.old → IsLedOver S.Store store.old store.new was old
-        (W.account observer.old) (W.account observer.new) [] }
-    // Once it has stopped, the store stays as it is.
-    ensures heeds { (is : Bool) (now : Content) → HoldsAs S.Store is now store.old
-        → (W.account observer.old).has_stopped ≡ true → store.new ≡ store.old }
-    ensures following { names_of S.Store store.new ≡ names_of S.Store store.old }
-    // A store that has failed stays as it is.
-    ensures broken { IsBroken S.Store store.old → store.new ≡ store.old }
-    ensures clean { HasCleanDisk (database S.Store store.new)
-        → HasCleanDisk (database S.Store store.old) }
+    // What was reported to the observer leads from the content before to the one afterwards; once it has stopped, the store
+    // stays as it is.
+    ensures keeps { KeepsObserved S.Store store.old store.new (W.account observer.old)
+        (W.account observer.new) [] }
 {
     let mut session = Session::new(config);
     observer.received(first.len());

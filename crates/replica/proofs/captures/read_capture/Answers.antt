@@ -1,6 +1,6 @@
-use Rattle.std.proofs.Common.{ap, length, refl}
+use Rattle.std.proofs.Common.{ap, length}
 use Rattle.replica.proofs.Captured.{read_one, broken_off, unread_one, first_of}
-use Rattle.replica.proofs.Noted.{led_nowhere, waits_none}
+use Rattle.replica.proofs.Keeps.{keeps_same}
 use Rattle.replica.proofs.captures.read_capture.Goals as goal
 
 pub returns-in-Ok-clause-read : goal.returns-in-Ok-clause-read
@@ -17,8 +17,5 @@ pub returns-clause-read : goal.returns-clause-read
 returns-clause-read g c clean was old holds =
     unread_one g.S.Store g.R.Read.remaining (λ h db is_open may. g.met.S.Store.settled h.store db is_open may) c.args.config.now.limit c.args.store.now was old c.args.capture holds
 
-pub returns-in-Ok-clause-notes : goal.returns-in-Ok-clause-notes
-returns-in-Ok-clause-notes g c = c.read_stream.ensures.notes
-
-pub returns-clause-notes : goal.returns-clause-notes
-returns-clause-notes g c clean was old holds = led_nowhere g.S.Store was old c.args.store.now (g.W.Observer.account c.args.observer.now) (g.W.Observer.account c.args.observer.now) holds refl (λ on. on) (waits_none (g.W.Observer.account c.args.observer.now).waits)
+pub returns-clause-keeps : goal.returns-clause-keeps
+returns-clause-keeps g c = keeps_same g.S.Store

@@ -6,16 +6,16 @@ use Rattle.std.proofs.lemmas.Option.{slice_get_read}
 use Rattle.std.proofs.lemmas.Iterator.Consumers.{YieldsList-turn, YieldsList-end}
 use Rattle.std.proofs.lemmas.Iterator.Adapters.{YieldsList-from_vec}
 use Rattle.sqlite.specs.Held.{state}
-use Rattle.store.specs.Store.{HoldsAs}
 use Rattle.replica.specs.declared.captures.Capture.{Capture}
 use Rattle.replica.specs.declared.end.Ended.{Ended}
 use Rattle.replica.specs.Over.{HasReadAll}
 use Rattle.replica.specs.Capture.{AreRead, AreReadUpTo}
-use Rattle.replica.proofs.Observed.{ends_later, more_ends, none_yet, one_at_most, still}
-use Rattle.replica.specs.Noted.{IsLedSinceOpening, MayEnd}
-use Rattle.replica.proofs.Noted.{since_from, since_through, led_through, led_to_end}
-use Rattle.replica.proofs.Missing.{missing_first, missing_later}
+use Rattle.replica.proofs.Observed.{ends_later, more_ends, none_yet, one_at_most}
+use Rattle.replica.specs.Noted.{MayEnd}
+use Rattle.replica.proofs.Missing.{missing_first}
 use Rattle.replica.proofs.Captured.{no_captures, captures_more, breaks_off}
+use Rattle.replica.specs.Keeps.{KeepsSinceOpening}
+use Rattle.replica.proofs.Keeps.{keeps_then, keeps_ended, since_opened, since_then, misses_then}
 use Rattle.replica.proofs.captures.read_captures.Goals as goal
 
 pub loop-capture-init : goal.loop-capture-init
@@ -23,16 +23,11 @@ loop-capture-init g c = record {
   piece = search rules;
   may = subst (λ (l : List Ended). All (λ (e : Ended). MayEnd e.reason (g.W.Observer.account c.opened.new.self)) l) (sym c.requires.none) (search rules);
   heeds = λ some. absurd (some c.requires.none);
-  stays = c.opened.ensures.stays;
   count = search rules;
   room = search rules;
-  clean = λ h. h;
-  following = refl;
-  broken = λ h. refl;
-  keeps = λ is now holds on. refl;
-  notes = λ clean was old holds.
-      subst (λ (l : List Ended). IsLedSinceOpening g.S.Store c.args.store.now c.args.store.now was old (g.W.Observer.account c.args.observer.now) (g.W.Observer.account c.opened.new.self) l) (sym c.requires.none)
-      (since_from g.S.Store was old c.args.store.now c.executed.result.now (g.W.Observer.account c.args.observer.now) (g.W.Observer.account c.opened.new.self) holds (c.executed.ensures.value was old holds) c.opened.ensures.noted c.opened.ensures.stays c.opened.ensures.waits);
+  keeps =
+      subst (λ (l : List Ended). KeepsSinceOpening g.S.Store c.args.store.now c.args.store.now (g.W.Observer.account c.args.observer.now) (g.W.Observer.account c.opened.new.self) l) (sym c.requires.none)
+      (since_opened g.S.Store c.executed.ensures.value c.opened.ensures.noted c.opened.ensures.stays c.opened.ensures.waits);
   missed = λ clean was old holds.
       missing_first (g.W.Observer.account c.args.observer.now).waits (g.W.Observer.account c.opened.new.self).waits c.executed.result.now old.executed (c.executed.ensures.value was old holds) c.opened.ensures.waits (sym c.is_done.ensures.done ∙ c.if-is_done.false);
   taken = λ h was old holds.
@@ -46,10 +41,10 @@ returns-in-Err-clause-reads g c clean was old holds =
     let all = c.args.captures.items in
     let turn = YieldsList-turn (YieldsList-from_vec {s = c.into_iter-capture-iterator.result} all c.into_iter-capture-iterator.ensures.into_iter_gives.0 (c.into_iter-capture-iterator.ensures.into_iter_gives.1 ∙ c.args.captures.ok.0)) c.loop-capture.yielded c.loop-capture.capture-iterator c.loop-capture.yielded_by c.next.result c.next.new.self c.in-Some.capture c.in-Some.is
     c.next.ensures.steps in
-    let t = inv.taken (c.read_capture.ensures.clean clean) was old holds in
+    let t = inv.taken (c.read_capture.ensures.keeps.store.clean clean) was old holds in
     subst (λ n. AreReadUpTo g.R.Read.remaining (HasReadAll g.S.Store c.args.config.now.limit c.read_capture.new.store (state g.S.Store c.args.store.now.conn).now.schema was old) (take n all) (slice_get all n) c.loop-capture.ends.items) (sym inv.count)
     (breaks_off g.S.Store g.R.Read.remaining c.args.config.now.limit c.loop-capture.store c.read_capture.new.store (state g.S.Store c.args.store.now.conn).now.schema was old (take (length c.loop-capture.yielded) all) c.loop-capture.ends.items
-    (slice_get all (length c.loop-capture.yielded)) c.in-Some.capture c.read_capture.ensures.broken (slice_get_read all (length all) (length c.loop-capture.yielded) c.in-Some.capture refl turn.0 turn.1) t
+    (slice_get all (length c.loop-capture.yielded)) c.in-Some.capture c.read_capture.ensures.keeps.store.broken (slice_get_read all (length all) (length c.loop-capture.yielded) c.in-Some.capture refl turn.0 turn.1) t
     (c.in-Err.ensures.failed clean t.holds.is t.holds.new t.holds.holds))
 
 pub returns-then-not-goes_on-clause-reads : goal.returns-then-not-goes_on-clause-reads
@@ -58,14 +53,14 @@ returns-then-not-goes_on-clause-reads g c clean was old holds =
     let all = c.args.captures.items in
     let turn = YieldsList-turn (YieldsList-from_vec {s = c.into_iter-capture-iterator.result} all c.into_iter-capture-iterator.ensures.into_iter_gives.0 (c.into_iter-capture-iterator.ensures.into_iter_gives.1 ∙ c.args.captures.ok.0)) c.loop-capture.yielded c.loop-capture.capture-iterator c.loop-capture.yielded_by c.next.result c.next.new.self c.in-Some.capture c.in-Some.is
     c.next.ensures.steps in
-    let t = inv.taken (c.read_capture.ensures.clean clean) was old holds in
+    let t = inv.taken (c.read_capture.ensures.keeps.store.clean clean) was old holds in
     let ends = c.push_reserved.ensures.items in
     let count : length c.push_reserved.new.self.items ≡ length c.loop-capture.yielded + 1 = ap length ends ∙ length_push c.loop-capture.ends.items c.in-Ok.end ∙ ap (λ n. n + 1) inv.count in
     let more : take (length c.push_reserved.new.self.items) all ≡ take (length c.loop-capture.yielded) all ++ c.in-Some.capture ∷ [] =
     ap (λ n. take n all) count ∙ take_more all (length c.loop-capture.yielded) c.in-Some.capture turn.0 ∙ ap (λ (p : Capture g.row.R.Denot). take (length c.loop-capture.yielded) all ++ p ∷ []) (sym turn.1) in
     subst₂ (λ (l : List (Capture g.row.R.Denot)) (es : List Ended). AreRead g.R.Read.remaining (HasReadAll g.S.Store c.args.config.now.limit c.read_capture.new.store (state g.S.Store c.args.store.now.conn).now.schema was old) l es) (sym more) (sym ends)
     (captures_more g.S.Store g.R.Read.remaining c.args.config.now.limit c.loop-capture.store c.read_capture.new.store (state g.S.Store c.args.store.now.conn).now.schema was old (take (length c.loop-capture.yielded) all) c.loop-capture.ends.items
-    c.in-Some.capture c.in-Ok.end c.read_capture.ensures.broken t (c.in-Ok.ensures.read clean t.holds.is t.holds.new t.holds.holds))
+    c.in-Some.capture c.in-Ok.end c.read_capture.ensures.keeps.store.broken t (c.in-Ok.ensures.read clean t.holds.is t.holds.new t.holds.holds))
 
 pub loop-capture-preserved : goal.loop-capture-preserved
 loop-capture-preserved g c =
@@ -82,35 +77,19 @@ loop-capture-preserved g c =
       may = more_ends c.loop-capture.ends.items c.in-Ok.end (g.W.Observer.account c.loop-capture.observer) (g.W.Observer.account c.read_capture.new.observer) (g.W.Observer.account c.ended-goes_on.new.self) [] c.push_reserved.new.self.items
           inv.heeds c.ended-goes_on.ensures.stays c.ended-goes_on.ensures.waits c.push_reserved.ensures.items inv.may c.in-Ok.ensures.may_end;
       heeds = λ some. not-true _ (sym c.ended-goes_on.ensures.goes_on ∙ c.if-not-goes_on.false);
-      stays = λ h. c.ended-goes_on.ensures.stays (c.read_capture.ensures.stays (inv.stays h));
       count = ap length ends ∙ length_push c.loop-capture.ends.items c.in-Ok.end ∙ ap (λ n. n + 1) inv.count ∙ sym next;
       room = search rules;
-      clean = λ h. inv.clean (c.read_capture.ensures.clean h);
-      following = c.read_capture.ensures.following ∙ inv.following;
-      broken = search rules;
-      keeps = λ is now holds on. still (HoldsAs g.S.Store is now) c.args.store.now c.loop-capture.store c.read_capture.new.store (inv.keeps is now holds on) holds (λ h. c.read_capture.ensures.heeds is now h (inv.stays on));
-      notes = λ clean was old holds.
-          subst (λ (l : List Ended). IsLedSinceOpening g.S.Store c.args.store.now c.read_capture.new.store was old (g.W.Observer.account c.args.observer.now) (g.W.Observer.account c.ended-goes_on.new.self) l) (sym c.push_reserved.ensures.items)
-          (since_through g.S.Store was old c.args.store.now c.loop-capture.store c.read_capture.new.store (g.W.Observer.account c.args.observer.now) (g.W.Observer.account c.loop-capture.observer) (g.W.Observer.account c.ended-goes_on.new.self) c.loop-capture.ends.items (c.in-Ok.end ∷ []) inv.following inv.heeds
-          (inv.notes (c.read_capture.ensures.clean clean) was old holds)
-          (λ is now held.
-          led_through g.S.Store is now c.loop-capture.store c.read_capture.new.store c.read_capture.new.store (g.W.Observer.account c.loop-capture.observer) (g.W.Observer.account c.read_capture.new.observer) (g.W.Observer.account c.ended-goes_on.new.self) [] (c.in-Ok.end ∷ []) c.read_capture.ensures.following (λ some. absurd (some refl))
-          (c.read_capture.ensures.notes clean is now held)
-          (λ after later kept. led_to_end g.S.Store after later c.read_capture.new.store c.in-Ok.end c.ended-goes_on.result (g.W.Observer.account c.read_capture.new.observer) (g.W.Observer.account c.ended-goes_on.new.self) kept c.ended-goes_on.ensures.noted c.ended-goes_on.ensures.goes_on c.ended-goes_on.ensures.stays c.ended-goes_on.ensures.waits))
-          (λ some. missing_later (g.W.Observer.account c.args.observer.now).waits (g.W.Observer.account c.read_capture.new.observer).waits (g.W.Observer.account c.ended-goes_on.new.self).waits [] old.executed c.ended-goes_on.ensures.waits
-          (let led = inv.notes (c.read_capture.ensures.clean clean) was old holds in
-          let next = c.read_capture.ensures.notes clean led.now_broken led.new led.holds in
-          missing_later (g.W.Observer.account c.args.observer.now).waits (g.W.Observer.account c.loop-capture.observer).waits (g.W.Observer.account c.read_capture.new.observer).waits next.led.noted_of.notices old.executed next.led.noted_of.waits (inv.missed (c.read_capture.ensures.clean clean) was old holds))));
-      missed = λ clean was old holds.
-          missing_later (g.W.Observer.account c.args.observer.now).waits (g.W.Observer.account c.read_capture.new.observer).waits (g.W.Observer.account c.ended-goes_on.new.self).waits [] old.executed c.ended-goes_on.ensures.waits
-          (let led = inv.notes (c.read_capture.ensures.clean clean) was old holds in
-          let next = c.read_capture.ensures.notes clean led.now_broken led.new led.holds in
-          missing_later (g.W.Observer.account c.args.observer.now).waits (g.W.Observer.account c.loop-capture.observer).waits (g.W.Observer.account c.read_capture.new.observer).waits next.led.noted_of.notices old.executed next.led.noted_of.waits (inv.missed (c.read_capture.ensures.clean clean) was old holds));
+      keeps = since_then g.S.Store inv.heeds c.push_reserved.ensures.items (λ some. inv.missed) inv.keeps
+          (keeps_then g.S.Store c.read_capture.ensures.keeps
+          (keeps_ended g.S.Store c.ended-goes_on.ensures.noted c.ended-goes_on.ensures.goes_on c.ended-goes_on.ensures.stays c.ended-goes_on.ensures.waits));
+      missed = misses_then g.S.Store inv.keeps
+          (keeps_then g.S.Store c.read_capture.ensures.keeps
+          (keeps_ended g.S.Store c.ended-goes_on.ensures.noted c.ended-goes_on.ensures.goes_on c.ended-goes_on.ensures.stays c.ended-goes_on.ensures.waits)) inv.missed;
       taken = λ clean was old holds.
-          let t = inv.taken (c.read_capture.ensures.clean clean) was old holds in
+          let t = inv.taken (c.read_capture.ensures.keeps.store.clean clean) was old holds in
           subst₂ (λ (l : List (Capture g.row.R.Denot)) (es : List Ended). AreRead g.R.Read.remaining (HasReadAll g.S.Store c.args.config.now.limit c.read_capture.new.store (state g.S.Store c.args.store.now.conn).now.schema was old) l es) (sym more) (sym ends)
           (captures_more g.S.Store g.R.Read.remaining c.args.config.now.limit c.loop-capture.store c.read_capture.new.store (state g.S.Store c.args.store.now.conn).now.schema was old (take (length c.loop-capture.yielded) all)
-          c.loop-capture.ends.items c.in-Some.capture c.in-Ok.end c.read_capture.ensures.broken t (c.in-Ok.ensures.read clean t.holds.is t.holds.new t.holds.holds));
+          c.loop-capture.ends.items c.in-Some.capture c.in-Ok.end c.read_capture.ensures.keeps.store.broken t (c.in-Ok.ensures.read clean t.holds.is t.holds.new t.holds.holds));
     }
 
 pub returns-clause-reads : goal.returns-clause-reads
@@ -136,54 +115,14 @@ pub returns-then-not-goes_on-clause-asked : goal.returns-then-not-goes_on-clause
 returns-then-not-goes_on-clause-asked g c is = not-false _ (sym c.ended-goes_on.ensures.goes_on ∙ c.if-not-goes_on.true)
 
 pub returns-in-Err-clause-no_more : goal.returns-in-Err-clause-no_more
-returns-in-Err-clause-no_more g c on = none_yet c.loop-capture.ends.items (g.W.Observer.account c.loop-capture.observer).has_stopped c.loop-capture.invariant.heeds (c.loop-capture.invariant.stays on)
+returns-in-Err-clause-no_more g c on = none_yet c.loop-capture.ends.items (g.W.Observer.account c.loop-capture.observer).has_stopped c.loop-capture.invariant.heeds (c.loop-capture.invariant.keeps.stays on)
 
 pub returns-then-not-goes_on-clause-no_more : goal.returns-then-not-goes_on-clause-no_more
 returns-then-not-goes_on-clause-no_more g c on =
-    one_at_most c.loop-capture.ends.items c.in-Ok.end c.push_reserved.new.self.items c.push_reserved.ensures.items (g.W.Observer.account c.loop-capture.observer).has_stopped c.loop-capture.invariant.heeds (c.loop-capture.invariant.stays on)
+    one_at_most c.loop-capture.ends.items c.in-Ok.end c.push_reserved.new.self.items c.push_reserved.ensures.items (g.W.Observer.account c.loop-capture.observer).has_stopped c.loop-capture.invariant.heeds (c.loop-capture.invariant.keeps.stays on)
 
 pub returns-clause-no_more : goal.returns-clause-no_more
-returns-clause-no_more g c on = none_yet c.loop-capture.ends.items (g.W.Observer.account c.loop-capture.observer).has_stopped c.loop-capture.invariant.heeds (c.loop-capture.invariant.stays on)
-
-pub returns-in-Err-clause-keeps : goal.returns-in-Err-clause-keeps
-returns-in-Err-clause-keeps g c is now holds on =
-    still (HoldsAs g.S.Store is now) c.args.store.now c.loop-capture.store c.read_capture.new.store (c.loop-capture.invariant.keeps is now holds on) holds (λ h. c.read_capture.ensures.heeds is now h (c.loop-capture.invariant.stays on))
-
-pub returns-then-not-goes_on-clause-keeps : goal.returns-then-not-goes_on-clause-keeps
-returns-then-not-goes_on-clause-keeps g c is now holds on =
-    still (HoldsAs g.S.Store is now) c.args.store.now c.loop-capture.store c.read_capture.new.store (c.loop-capture.invariant.keeps is now holds on) holds (λ h. c.read_capture.ensures.heeds is now h (c.loop-capture.invariant.stays on))
-
-pub returns-clause-keeps : goal.returns-clause-keeps
-returns-clause-keeps g c = c.loop-capture.invariant.keeps
-
-pub returns-in-Err-clause-notes : goal.returns-in-Err-clause-notes
-returns-in-Err-clause-notes g c clean was old holds =
-    let inv = c.loop-capture.invariant in
-    subst (λ (l : List Ended). IsLedSinceOpening g.S.Store c.args.store.now c.read_capture.new.store was old (g.W.Observer.account c.args.observer.now) (g.W.Observer.account c.read_capture.new.observer) l) (append-nil c.loop-capture.ends.items)
-    (since_through g.S.Store was old c.args.store.now c.loop-capture.store c.read_capture.new.store (g.W.Observer.account c.args.observer.now) (g.W.Observer.account c.loop-capture.observer) (g.W.Observer.account c.read_capture.new.observer) c.loop-capture.ends.items [] inv.following inv.heeds
-    (inv.notes (c.read_capture.ensures.clean clean) was old holds) (λ is now held. c.read_capture.ensures.notes clean is now held)
-    (λ some.
-    let led = inv.notes (c.read_capture.ensures.clean clean) was old holds in
-    let next = c.read_capture.ensures.notes clean led.now_broken led.new led.holds in
-    missing_later (g.W.Observer.account c.args.observer.now).waits (g.W.Observer.account c.loop-capture.observer).waits (g.W.Observer.account c.read_capture.new.observer).waits next.led.noted_of.notices old.executed next.led.noted_of.waits (inv.missed (c.read_capture.ensures.clean clean) was old holds)))
-
-pub returns-then-not-goes_on-clause-notes : goal.returns-then-not-goes_on-clause-notes
-returns-then-not-goes_on-clause-notes g c clean was old holds =
-    let inv = c.loop-capture.invariant in
-    subst (λ (l : List Ended). IsLedSinceOpening g.S.Store c.args.store.now c.read_capture.new.store was old (g.W.Observer.account c.args.observer.now) (g.W.Observer.account c.ended-goes_on.new.self) l) (sym c.push_reserved.ensures.items)
-    (since_through g.S.Store was old c.args.store.now c.loop-capture.store c.read_capture.new.store (g.W.Observer.account c.args.observer.now) (g.W.Observer.account c.loop-capture.observer) (g.W.Observer.account c.ended-goes_on.new.self) c.loop-capture.ends.items (c.in-Ok.end ∷ []) inv.following inv.heeds
-    (inv.notes (c.read_capture.ensures.clean clean) was old holds)
-    (λ is now held.
-    led_through g.S.Store is now c.loop-capture.store c.read_capture.new.store c.read_capture.new.store (g.W.Observer.account c.loop-capture.observer) (g.W.Observer.account c.read_capture.new.observer) (g.W.Observer.account c.ended-goes_on.new.self) [] (c.in-Ok.end ∷ []) c.read_capture.ensures.following (λ some. absurd (some refl))
-    (c.read_capture.ensures.notes clean is now held)
-    (λ after later kept. led_to_end g.S.Store after later c.read_capture.new.store c.in-Ok.end c.ended-goes_on.result (g.W.Observer.account c.read_capture.new.observer) (g.W.Observer.account c.ended-goes_on.new.self) kept c.ended-goes_on.ensures.noted c.ended-goes_on.ensures.goes_on c.ended-goes_on.ensures.stays c.ended-goes_on.ensures.waits))
-    (λ some. missing_later (g.W.Observer.account c.args.observer.now).waits (g.W.Observer.account c.read_capture.new.observer).waits (g.W.Observer.account c.ended-goes_on.new.self).waits [] old.executed c.ended-goes_on.ensures.waits
-    (let led = inv.notes (c.read_capture.ensures.clean clean) was old holds in
-    let next = c.read_capture.ensures.notes clean led.now_broken led.new led.holds in
-    missing_later (g.W.Observer.account c.args.observer.now).waits (g.W.Observer.account c.loop-capture.observer).waits (g.W.Observer.account c.read_capture.new.observer).waits next.led.noted_of.notices old.executed next.led.noted_of.waits (inv.missed (c.read_capture.ensures.clean clean) was old holds))))
-
-pub returns-clause-notes : goal.returns-clause-notes
-returns-clause-notes g c = c.loop-capture.invariant.notes
+returns-clause-no_more g c on = none_yet c.loop-capture.ends.items (g.W.Observer.account c.loop-capture.observer).has_stopped c.loop-capture.invariant.heeds (c.loop-capture.invariant.keeps.stays on)
 
 pub returns-then-is_done-clause-reads : goal.returns-then-is_done-clause-reads
 returns-then-is_done-clause-reads g c clean was old holds =
@@ -199,7 +138,19 @@ returns-then-is_done-clause-asked g c is = c.is_done.ensures.stopped c.if-is_don
 pub returns-then-is_done-clause-no_more : goal.returns-then-is_done-clause-no_more
 returns-then-is_done-clause-no_more g c on = none_yet c.args.ends.now.items (g.W.Observer.account c.opened.new.self).has_stopped (λ some. absurd (some c.requires.none)) (c.opened.ensures.stays on)
 
-pub returns-then-is_done-clause-notes : goal.returns-then-is_done-clause-notes
-returns-then-is_done-clause-notes g c clean was old holds =
-    subst (λ (l : List Ended). IsLedSinceOpening g.S.Store c.args.store.now c.args.store.now was old (g.W.Observer.account c.args.observer.now) (g.W.Observer.account c.opened.new.self) l) (sym c.requires.none)
-    (since_from g.S.Store was old c.args.store.now c.executed.result.now (g.W.Observer.account c.args.observer.now) (g.W.Observer.account c.opened.new.self) holds (c.executed.ensures.value was old holds) c.opened.ensures.noted c.opened.ensures.stays c.opened.ensures.waits)
+pub returns-then-is_done-clause-keeps : goal.returns-then-is_done-clause-keeps
+returns-then-is_done-clause-keeps g c =
+    subst (λ (l : List Ended). KeepsSinceOpening g.S.Store c.args.store.now c.args.store.now (g.W.Observer.account c.args.observer.now) (g.W.Observer.account c.opened.new.self) l) (sym c.requires.none)
+    (since_opened g.S.Store c.executed.ensures.value c.opened.ensures.noted c.opened.ensures.stays c.opened.ensures.waits)
+
+pub returns-in-Err-clause-keeps : goal.returns-in-Err-clause-keeps
+returns-in-Err-clause-keeps g c =
+    let inv = c.loop-capture.invariant in
+    since_then g.S.Store inv.heeds (sym (append-nil c.loop-capture.ends.items)) (λ some. inv.missed) inv.keeps c.read_capture.ensures.keeps
+
+pub returns-then-not-goes_on-clause-keeps : goal.returns-then-not-goes_on-clause-keeps
+returns-then-not-goes_on-clause-keeps g c =
+    let inv = c.loop-capture.invariant in
+    since_then g.S.Store inv.heeds c.push_reserved.ensures.items (λ some. inv.missed) inv.keeps
+    (keeps_then g.S.Store c.read_capture.ensures.keeps
+    (keeps_ended g.S.Store c.ended-goes_on.ensures.noted c.ended-goes_on.ensures.goes_on c.ended-goes_on.ensures.stays c.ended-goes_on.ensures.waits))

@@ -1,11 +1,13 @@
-use Rattle.std.proofs.Common.{◌≡◌, ◌≢◌, ◌<◌, ◌≤◌, Bool, true, false, [], length, take, vec_capacity, All}
+use Rattle.std.proofs.Common.{◌≡◌, ◌≢◌, ◌<◌, ◌≤◌, Bool, false, [], length, take, vec_capacity, All}
 use Rattle.sqlite.specs.State.{HasCleanDisk}
 use Rattle.sqlite.specs.Held.{state}
 use Rattle.store.specs.State.{Content}
 use Rattle.store.specs.Store.{HoldsAs}
 use Rattle.replica.specs.Over.{HasReadAll}
 use Rattle.replica.specs.Capture.{AreRead}
-use Rattle.replica.specs.Noted.{IsLedSinceOpening, WasMissing, MayEnd}
+use Rattle.replica.specs.Noted.{MayEnd}
+use Rattle.replica.specs.Keeps.{KeepsSinceOpening}
+use Rattle.replica.proofs.Keeps.{MissesSince}
 use Rattle.replica.proofs.captures.read_captures.Given as goal
 
 abbrev pub invariant-loop-capture : goal.invariant-loop-capture
@@ -13,15 +15,10 @@ invariant-loop-capture g l = record {
   piece : 0 < length l.piece;
   may : All (λ end. MayEnd end.reason (g.W.Observer.account l.observer)) l.ends.items;
   heeds : l.ends.items ≢ [] → (g.W.Observer.account l.observer).has_stopped ≡ false;
-  stays : (g.W.Observer.account l.fn.observer).has_stopped ≡ true → (g.W.Observer.account l.observer).has_stopped ≡ true;
   count : length l.ends.items ≡ length l.yielded;
   room : length l.fn.captures.items ≤ vec_capacity l.ends;
-  clean : HasCleanDisk (state g.S.Store l.store.conn) → HasCleanDisk (state g.S.Store l.fn.store.conn);
-  following : l.store.following ≡ l.fn.store.following;
-  broken : l.fn.store.broken ≡ true → l.store ≡ l.fn.store;
-  keeps : (is : Bool) (now : Content) → HoldsAs g.S.Store is now l.fn.store → (g.W.Observer.account l.fn.observer).has_stopped ≡ true → l.store ≡ l.fn.store;
-  notes : HasCleanDisk (state g.S.Store l.store.conn) → (was : Bool) (old : Content) → HoldsAs g.S.Store was old l.fn.store → IsLedSinceOpening g.S.Store l.fn.store l.store was old (g.W.Observer.account l.fn.observer) (g.W.Observer.account l.observer) l.ends.items;
-  missed : HasCleanDisk (state g.S.Store l.store.conn) → (was : Bool) (old : Content) → HoldsAs g.S.Store was old l.fn.store → WasMissing (g.W.Observer.account l.fn.observer).waits (g.W.Observer.account l.observer).waits old.executed;
+  keeps : KeepsSinceOpening g.S.Store l.fn.store l.store (g.W.Observer.account l.fn.observer) (g.W.Observer.account l.observer) l.ends.items;
+  missed : MissesSince g.S.Store l.fn.store l.store (g.W.Observer.account l.fn.observer) (g.W.Observer.account l.observer);
   taken : HasCleanDisk (state g.S.Store l.store.conn) → (was : Bool) (old : Content) → HoldsAs g.S.Store was old l.fn.store
       → AreRead g.R.Read.remaining (HasReadAll g.S.Store l.config.limit l.store (state g.S.Store l.fn.store.conn).now.schema was old) (take (length l.yielded) l.fn.captures.items) l.ends.items;
 }

@@ -1,4 +1,4 @@
-use Rattle.std.proofs.Common.{◌∙◌, [], true, false, refl, sym, subst}
+use Rattle.std.proofs.Common.{[], false, refl, sym, subst}
 use Rattle.store.specs.Changes.{adopted}
 use Rattle.store.specs.Store.{Holds}
 use Rattle.replica.specs.Noted.{IsLedTo}
@@ -6,11 +6,12 @@ use Rattle.replica.specs.Changing.{HasChanged}
 use Rattle.replica.proofs.Noted.{led_from, led_through}
 use Rattle.replica.proofs.Changed.{begun_is, unless_begun, led_likewise, led_unadopted}
 use Rattle.replica.proofs.Taking.{not_adopted}
+use Rattle.replica.proofs.Keeps.{store_then}
 use Rattle.replica.proofs.changing.change.Goals as goal
 
 pub returns-in-Ok-clause-changes : goal.returns-in-Ok-clause-changes
 returns-in-Ok-clause-changes g c clean old holds =
-    let whole : Holds g.S.Store c.adopt.new.self (adopted old c.args.gtids.now) = c.in-Ok.ensures.adopts (c.apply_all.ensures.clean clean) old holds in
+    let whole : Holds g.S.Store c.adopt.new.self (adopted old c.args.gtids.now) = c.in-Ok.ensures.adopts (c.apply_all.ensures.keeps.store.clean clean) old holds in
     subst (λ n. HasChanged g.S.Store n c.apply_all.new.store old c.args.gtids.now (g.I.Deliveries.supply c.args.deliveries.now) c.apply_all.result.0 c.apply_all.result.1) c.adopt.ensures.following
     (c.apply_all.ensures.changes clean old c.args.gtids.now whole)
 
@@ -22,12 +23,12 @@ pub returns-in-Ok-clause-notes : goal.returns-in-Ok-clause-notes
 returns-in-Ok-clause-notes g c clean old holds =
     let store = c.adopt.new.self in
     let begin = adopted old c.args.gtids.now in
-    let whole : Holds g.S.Store store begin = c.in-Ok.ensures.adopts (c.apply_all.ensures.clean clean) old holds in
+    let whole : Holds g.S.Store store begin = c.in-Ok.ensures.adopts (c.apply_all.ensures.keeps.store.clean clean) old holds in
     begun_is c.apply_all.result.1 old c.args.gtids.now c.apply_all.ensures.begun (λ b. IsLedTo g.S.Store c.args.store.now c.apply_all.new.store false b (g.W.Observer.account c.args.observer.now) (g.W.Observer.account c.apply_all.new.observer) [])
     (led_likewise g.S.Store c.args.store.now store c.apply_all.new.store false begin (g.W.Observer.account c.args.observer.now) (g.W.Observer.account c.apply_all.new.observer) [] c.adopt.ensures.following
     ((led_through g.S.Store false begin store store c.apply_all.new.store (g.W.Observer.account c.args.observer.now) (g.W.Observer.account c.opened.new.self) (g.W.Observer.account c.apply_all.new.observer) [] [] refl (λ some. absurd (some refl))
     (led_from g.S.Store false begin store c.executed.result.now (g.W.Observer.account c.args.observer.now) (g.W.Observer.account c.opened.new.self) whole (c.executed.ensures.value false begin whole) c.opened.ensures.noted c.opened.ensures.stays c.opened.ensures.waits)
-    (λ is now held. c.apply_all.ensures.notes clean is now held)).led))
+    (λ is now held. c.apply_all.ensures.keeps.notes clean is now held)).led))
 
 pub returns-in-Err-clause-notes : goal.returns-in-Err-clause-notes
 returns-in-Err-clause-notes g c clean old holds = led_unadopted g.S.Store c.args.store.now c.adopt.new.self old c.args.gtids.now c.in-Err.fault (g.W.Observer.account c.args.observer.now) (c.in-Err.ensures.adopts clean old holds)
@@ -35,11 +36,14 @@ returns-in-Err-clause-notes g c clean old holds = led_unadopted g.S.Store c.args
 pub returns-in-Ok-clause-heeds : goal.returns-in-Ok-clause-heeds
 returns-in-Ok-clause-heeds g c clean old holds on begun =
     let begin = adopted old c.args.gtids.now in
-    let whole : Holds g.S.Store c.adopt.new.self begin = c.in-Ok.ensures.adopts (c.apply_all.ensures.clean clean) old holds in
-    subst (λ s. Holds g.S.Store s begin) (sym (c.apply_all.ensures.heeds false begin whole (c.opened.ensures.stays on))) whole
+    let whole : Holds g.S.Store c.adopt.new.self begin = c.in-Ok.ensures.adopts (c.apply_all.ensures.keeps.store.clean clean) old holds in
+    subst (λ s. Holds g.S.Store s begin) (sym (c.apply_all.ensures.keeps.heeds false begin whole (c.opened.ensures.stays on))) whole
 
 pub returns-in-Err-clause-heeds : goal.returns-in-Err-clause-heeds
 returns-in-Err-clause-heeds g c clean old holds on begun = absurd begun
 
 pub returns-in-Ok-clause-unreported : goal.returns-in-Ok-clause-unreported
 returns-in-Ok-clause-unreported g c = unless_begun c.apply_all.result.1 _ c.apply_all.ensures.begun
+
+pub returns-in-Ok-clause-keeps : goal.returns-in-Ok-clause-keeps
+returns-in-Ok-clause-keeps g c = store_then g.S.Store (record { following = c.adopt.ensures.following; broken = λ b. (c.adopt.ensures.broken b).1; clean = c.adopt.ensures.clean }) c.apply_all.ensures.keeps.store

@@ -1,7 +1,7 @@
-use Rattle.std.proofs.Common.{[], refl, subst}
+use Rattle.std.proofs.Common.{refl, subst}
 use Rattle.gather.specs.View.{delivery_value}
 use Rattle.replica.specs.Given.{GivesOne}
-use Rattle.replica.proofs.Noted.{led_nowhere, waits_none}
+use Rattle.replica.proofs.Keeps.{keeps_same}
 use Rattle.replica.proofs.changing.take_next.Goals as goal
 
 pub returns-in-Ok-None-clause-takes : goal.returns-in-Ok-None-clause-takes
@@ -19,11 +19,8 @@ returns-in-Ok-clause-takes g c clean now holds = (
   c.in-Ok.ensures.alone clean now holds,
 )
 
-pub returns-in-Ok-None-clause-notes : goal.returns-in-Ok-None-clause-notes
-returns-in-Ok-None-clause-notes g c clean was old holds = led_nowhere g.S.Store was old c.args.store.now (g.W.Observer.account c.args.observer.now) (g.W.Observer.account c.args.observer.now) holds refl (λ on. on) (waits_none (g.W.Observer.account c.args.observer.now).waits)
+pub returns-in-Ok-None-clause-keeps : goal.returns-in-Ok-None-clause-keeps
+returns-in-Ok-None-clause-keeps g c = keeps_same g.S.Store
 
-pub returns-in-Err-clause-notes : goal.returns-in-Err-clause-notes
-returns-in-Err-clause-notes g c clean was old holds = led_nowhere g.S.Store was old c.args.store.now (g.W.Observer.account c.args.observer.now) (g.W.Observer.account c.args.observer.now) holds refl (λ on. on) (waits_none (g.W.Observer.account c.args.observer.now).waits)
-
-pub returns-in-Ok-clause-notes : goal.returns-in-Ok-clause-notes
-returns-in-Ok-clause-notes g c = c.apply.ensures.notes
+pub returns-in-Err-clause-keeps : goal.returns-in-Err-clause-keeps
+returns-in-Err-clause-keeps g c = keeps_same g.S.Store

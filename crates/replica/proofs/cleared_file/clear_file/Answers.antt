@@ -8,22 +8,22 @@ use Rattle.replica.proofs.cleared_file.clear_file.Goals as goal
 pub returns-clause-clears : goal.returns-clause-clears
 returns-clause-clears g c names content files =
     cleared_into _ names content c.in_ok-store.store c.clear-end.new.store c.args.schema.now c.args.table.now c.args.gtid.source c.args.gtid.number c.clear-end.result c.close_file-closed.result
-    c.clear-end.ensures.following (λ clean. let o = c.in_ok-store.ensures.opens (c.clear-end.ensures.clean clean) names content files in (o.0, o.1)) c.clear-end.ensures.clears
+    c.clear-end.ensures.keeps.following (λ clean. let o = c.in_ok-store.ensures.opens (c.clear-end.ensures.keeps.clean clean) names content files in (o.0, o.1)) c.clear-end.ensures.clears
     c.close_file-closed.ensures.copied c.close_file-closed.ensures.err
 
 pub returns-clause-closing : goal.returns-clause-closing
 returns-clause-closing g c =
     closes_as None (image_at g.P.Start) c.in_ok-store.store c.clear-end.new.store.conn c.close_file-closed.result
-    c.clear-end.ensures.clean c.in_ok-store.ensures.opens c.in_ok-store.ensures.entered c.close_file-closed.ensures.copied c.close_file-closed.ensures.err
+    c.clear-end.ensures.keeps.clean c.in_ok-store.ensures.opens c.in_ok-store.ensures.entered c.close_file-closed.ensures.copied c.close_file-closed.ensures.err
 
 pub returns-clause-notes : goal.returns-clause-notes
 returns-clause-notes g c names content files =
     noted_since _ names content c.in_ok-store.store c.clear-end.new.store (g.W.Observer.account c.args.observer.now) (g.W.Observer.account c.clear-end.new.observer) c.close_file-closed.result
-    c.clear-end.ensures.following (λ clean. let o = c.in_ok-store.ensures.opens (c.clear-end.ensures.clean clean) names content files in (o.0, o.1)) c.clear-end.ensures.notes
+    c.clear-end.ensures.keeps.following (λ clean. let o = c.in_ok-store.ensures.opens (c.clear-end.ensures.keeps.clean clean) names content files in (o.0, o.1)) c.clear-end.ensures.notes
     c.close_file-closed.ensures.copied c.close_file-closed.ensures.err
 
 pub returns-clause-keeps : goal.returns-clause-keeps
 returns-clause-keeps g c on names content files =
     keeps_stayed _ names content c.in_ok-store.store c.clear-end.new.store (names_for None) content c.close_file-closed.result
-    c.clear-end.ensures.following (λ clean. let o = c.in_ok-store.ensures.opens (c.clear-end.ensures.clean clean) names content files in (o.0, o.1)) (λ clean holds. c.clear-end.ensures.heeds clean content holds on)
+    c.clear-end.ensures.keeps.following (λ clean. let o = c.in_ok-store.ensures.opens (c.clear-end.ensures.keeps.clean clean) names content files in (o.0, o.1)) (λ clean holds. c.clear-end.ensures.heeds clean content holds on)
     c.close_file-closed.ensures.copied c.close_file-closed.ensures.err

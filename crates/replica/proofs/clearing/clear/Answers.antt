@@ -1,6 +1,7 @@
 use Rattle.std.proofs.Common.{◌≡◌, false, refl, sym, subst}
 use Rattle.store.specs.Store.{Holds}
 use Rattle.replica.proofs.ClearStore.{contains_by, admits_by, opened_noted, led_opened, led_applied, stays_whole, repeats, not_followed, not_listed, ends_by}
+use Rattle.replica.proofs.Keeps.{store_then}
 use Rattle.replica.proofs.clearing.clear.Goals as goal
 
 pub returns-then-contains-clause-clears : goal.returns-then-contains-clause-clears
@@ -40,9 +41,9 @@ returns-in-Err-clause-notes g c clean old holds =
 
 pub returns-clause-clears : goal.returns-clause-clears
 returns-clause-clears g c clean old holds =
-    let lists = c.in-Ok.ensures.lists (c.apply.ensures.clean clean) old holds in
+    let lists = c.in-Ok.ensures.lists (c.apply.ensures.keeps.store.clean clean) old holds in
     ends_by g.S.Store (λ h db is_open may. g.met.S.Store.settled h.store db is_open may) c.args.store.now.following c.args.schema.now c.args.table.now c.args.gtid.source c.args.gtid.number c.list_deletes.new.store c.apply.new.store old c.len-rows.result c.in-Ok.changes c.apply.result c.end_of_clear.result
-    c.end_of_clear.ensures c.list_deletes.ensures.following c.apply.ensures.following
+    c.end_of_clear.ensures c.list_deletes.ensures.keeps.following c.apply.ensures.keeps.store.following
     (record {
       fresh = contains_by old.executed c.executed-2.result.now c.args.gtid.source c.args.gtid.number c.contains.result _ (c.executed-2.ensures.value false old holds) c.contains.ensures c.if-contains.false;
       followed = admits_by c.args.store.now.following c.following.result.now c.args.schema.now c.args.table.now c.follows.result _ c.following.ensures c.follows.ensures c.if-not-follows.false;
@@ -51,10 +52,10 @@ returns-clause-clears g c clean old holds =
 
 pub returns-clause-notes : goal.returns-clause-notes
 returns-clause-notes g c clean old holds =
-    let whole : Holds g.S.Store c.list_deletes.new.store old = (c.in-Ok.ensures.lists (c.apply.ensures.clean clean) old holds).1 in
-    led_applied g.S.Store (λ h db is_open may. g.met.S.Store.settled h.store db is_open may) c.args.store.now c.list_deletes.new.store c.apply.new.store old (g.W.Observer.account c.args.observer.now) (g.W.Observer.account c.opened.new.self) (g.W.Observer.account c.apply.new.observer) c.list_deletes.ensures.following whole
+    let whole : Holds g.S.Store c.list_deletes.new.store old = (c.in-Ok.ensures.lists (c.apply.ensures.keeps.store.clean clean) old holds).1 in
+    led_applied g.S.Store (λ h db is_open may. g.met.S.Store.settled h.store db is_open may) c.args.store.now c.list_deletes.new.store c.apply.new.store old (g.W.Observer.account c.args.observer.now) (g.W.Observer.account c.opened.new.self) (g.W.Observer.account c.apply.new.observer) c.list_deletes.ensures.keeps.following whole
     (opened_noted c.args.store.now.following old c.executed.result.now (g.W.Observer.account c.args.observer.now) (g.W.Observer.account c.opened.new.self) (c.executed.ensures.value false old holds) c.opened.ensures.noted c.opened.ensures.stays c.opened.ensures.waits)
-    refl (λ is now held. c.apply.ensures.notes clean is now held)
+    refl (λ is now held. c.apply.ensures.keeps.notes clean is now held)
 
 pub returns-then-contains-clause-heeds : goal.returns-then-contains-clause-heeds
 returns-then-contains-clause-heeds g c clean old holds on = stays_whole g.S.Store (λ h db is_open may. g.met.S.Store.settled h.store db is_open may) c.args.store.now old (λ left. left ≡ old) refl holds
@@ -67,6 +68,9 @@ returns-in-Err-clause-heeds g c clean old holds on = (c.in-Err.ensures.lists cle
 
 pub returns-clause-heeds : goal.returns-clause-heeds
 returns-clause-heeds g c clean old holds on =
-    let whole : Holds g.S.Store c.list_deletes.new.store old = (c.in-Ok.ensures.lists (c.apply.ensures.clean clean) old holds).1 in
+    let whole : Holds g.S.Store c.list_deletes.new.store old = (c.in-Ok.ensures.lists (c.apply.ensures.keeps.store.clean clean) old holds).1 in
     stays_whole g.S.Store (λ h db is_open may. g.met.S.Store.settled h.store db is_open may) c.apply.new.store old (λ left. left ≡ old) refl
-    (subst (λ s. Holds g.S.Store s old) (sym (c.apply.ensures.heeds false old whole (c.opened.ensures.stays on))) whole)
+    (subst (λ s. Holds g.S.Store s old) (sym (c.apply.ensures.keeps.heeds false old whole (c.opened.ensures.stays on))) whole)
+
+pub returns-clause-keeps : goal.returns-clause-keeps
+returns-clause-keeps g c = store_then g.S.Store c.list_deletes.ensures.keeps c.apply.ensures.keeps.store

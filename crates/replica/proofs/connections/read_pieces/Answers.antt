@@ -1,4 +1,4 @@
-use Rattle.std.proofs.Common.{rules, ◌≡◌, ◌++◌, ◌∷◌, ◌+◌, ℕ, List, [], Vec, Global, take, sym, ap, ◌∙◌, subst, refl}
+use Rattle.std.proofs.Common.{◌≡◌, ◌++◌, ◌∷◌, ◌+◌, ℕ, List, [], Vec, Global, take, sym, ap, ◌∙◌, subst}
 use Rattle.std.proofs.lemmas.List.{take_more, take_all}
 use Rattle.sqlite.specs.Held.{state}
 use Rattle.replica.specs.declared.end.Ended.{Ended}
@@ -7,16 +7,15 @@ use Rattle.replica.specs.Pieces.{stream_of}
 use Rattle.replica.specs.Over.{StandsOver, HasRead}
 use Rattle.replica.proofs.Histories.{stream-more}
 use Rattle.replica.proofs.Runs.{begins, read_all}
+use Rattle.replica.proofs.Keeps.{store_same, store_then}
 use Rattle.replica.proofs.connections.read_pieces.Goals as goal
 
 pub loop-piece-init : goal.loop-piece-init
 loop-piece-init g c = record {
   config = c.new-session.ensures.config;
-  following = refl;
-  clean = λ h. h;
+  keeps = store_same g.S.Store;
   stands = λ h was old holds. begins g.S.Store (λ h db is_open may. g.met.S.Store.settled h.store db is_open may) c.new-session.result c.args.store.now was old holds (c.new-session.ensures.stands c.args.store.now.following was old);
   may_end = rw c.new-session.ensures.ended tt;
-  broken = λ h. refl;
 }
 
 pub loop-piece-preserved : goal.loop-piece-preserved
@@ -31,19 +30,17 @@ loop-piece-preserved g c =
     ap (λ (l : List ℕ). stream_of (take i all) ++ l) c.as_slice.ensures.value ∙ sym (stream-more all i piece more) in
     record {
       config = c.feed.ensures.config ∙ inv.config;
-      following = c.feed.ensures.following ∙ inv.following;
-      clean = λ h. inv.clean (c.feed.ensures.clean h);
+      keeps = store_then g.S.Store inv.keeps c.feed.ensures.keeps;
       stands = λ h was old holds. subst (λ (l : List ℕ). StandsOver g.S.Store c.feed.new.self c.feed.new.store (state g.S.Store c.args.store.now.conn).now.schema was old l []) grown
-          (c.feed.ensures.stands h (state g.S.Store c.args.store.now.conn).now.schema was old (stream_of (take i all)) [] (inv.stands (c.feed.ensures.clean h) was old holds));
+          (c.feed.ensures.stands h (state g.S.Store c.args.store.now.conn).now.schema was old (stream_of (take i all)) [] (inv.stands (c.feed.ensures.keeps.clean h) was old holds));
       may_end = c.feed.ensures.may_end inv.may_end;
-      broken = search rules;
     }
 
 pub returns-clause-read : goal.returns-clause-read
 returns-clause-read g c clean was old holds =
     let inv = c.loop-piece.invariant in
     subst (λ (l : List (Vec ℕ Global)). HasRead g.S.Store c.args.config.limit c.args.store.now c.loop-piece.store was old (stream_of l) c.finish.result) (take_all c.loop-piece.piece-index c.args.pieces.now c.loop-piece-test.false)
-    (read_all g.S.Store c.loop-piece.session c.args.store.now c.loop-piece.store c.args.config.limit was old (stream_of (take c.loop-piece.piece-index c.args.pieces.now)) [] c.finish.result (ap (λ s. s.limit) inv.config) inv.following c.finish.ensures.end
+    (read_all g.S.Store c.loop-piece.session c.args.store.now c.loop-piece.store c.args.config.limit was old (stream_of (take c.loop-piece.piece-index c.args.pieces.now)) [] c.finish.result (ap (λ s. s.limit) inv.config) inv.keeps.following c.finish.ensures.end
     (inv.stands clean was old holds))
 
 pub returns-clause-may_end : goal.returns-clause-may_end

@@ -1,4 +1,4 @@
-use Rattle.std.proofs.Common.{◌≡◌, Bool, true, [], take}
+use Rattle.std.proofs.Common.{◌≡◌, Bool, [], take}
 use Rattle.sqlite.specs.State.{HasCleanDisk}
 use Rattle.sqlite.specs.Held.{state}
 use Rattle.store.specs.State.{Content}
@@ -7,15 +7,14 @@ use Rattle.replica.specs.Conn.{IsOwn}
 use Rattle.replica.specs.Pieces.{stream_of}
 use Rattle.replica.specs.Standing.{end_of}
 use Rattle.replica.specs.Over.{StandsOver}
+use Rattle.replica.specs.Keeps.{KeepsStore}
 use Rattle.replica.proofs.connections.read_pieces.Given as goal
 
 abbrev pub invariant-loop-piece : goal.invariant-loop-piece
 invariant-loop-piece g l = record {
   config : l.session.config ≡ l.fn.config;
-  following : l.store.following ≡ l.fn.store.following;
-  clean : HasCleanDisk (state g.S.Store l.store.conn) → HasCleanDisk (state g.S.Store l.fn.store.conn);
+  keeps : KeepsStore g.S.Store l.fn.store l.store;
   stands : HasCleanDisk (state g.S.Store l.store.conn) → (was : Bool) (old : Content) → HoldsAs g.S.Store was old l.fn.store
       → StandsOver g.S.Store l.session l.store (state g.S.Store l.fn.store.conn).now.schema was old (stream_of (take l.piece-index l.pieces)) [];
   may_end : IsOwn (end_of l.session).reason;
-  broken : l.fn.store.broken ≡ true → l.store ≡ l.fn.store;
 }

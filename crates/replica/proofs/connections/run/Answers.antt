@@ -1,4 +1,4 @@
-use Rattle.std.proofs.Common.{rules, ◌≡◌, ◌++◌, ◌∷◌, [], ◌+◌, ℕ, List, Vec, Global, take, refl, sym, ap, ◌∙◌, subst, All}
+use Rattle.std.proofs.Common.{rules, ◌≡◌, ◌++◌, ◌∷◌, [], ◌+◌, ℕ, List, Vec, Global, take, sym, ap, ◌∙◌, subst, All}
 use Rattle.std.proofs.lemmas.List.{take_more}
 use Rattle.std.proofs.lemmas.List.Elements.{All-push}
 use Rattle.sqlite.specs.Held.{state}
@@ -7,18 +7,17 @@ use Rattle.replica.specs.Conn.{IsOwn}
 use Rattle.replica.specs.Pieces.{stream_of, streams_of}
 use Rattle.replica.specs.Over.{HasRead, HasReadAll}
 use Rattle.replica.proofs.Runs.{none_read, next_read}
+use Rattle.replica.proofs.Keeps.{store_same, store_then}
 use Rattle.replica.proofs.connections.run.Goals as goal
 
 pub loop-pieces-init : goal.loop-pieces-init
 loop-pieces-init g c = record {
   room = search rules;
   count = search rules;
-  clean = λ h. h;
+  keeps = store_same g.S.Store;
   taken = λ h was old holds.
       subst (λ (l : List Ended). HasReadAll g.S.Store c.args.config.now.limit c.args.store.now (state g.S.Store c.args.store.now.conn).now.schema was old [] l) (sym c.in-Ok.ensures.items)
       (none_read g.S.Store (λ h db is_open may. g.met.S.Store.settled h.store db is_open may) c.args.config.now.limit c.args.store.now was old holds);
-  following = refl;
-  broken = λ h. refl;
   may_end = subst (λ (l : List Ended). All (λ (e : Ended). IsOwn e.reason) l) (sym c.in-Ok.ensures.items) (search rules);
 }
 
@@ -36,15 +35,13 @@ loop-pieces-preserved g c =
     record {
       room = search rules;
       count = search rules;
-      clean = λ h. c.loop-pieces.invariant.clean (c.read_connection-end.ensures.clean h);
+      keeps = store_then g.S.Store c.loop-pieces.invariant.keeps c.read_connection-end.ensures.keeps;
       taken = λ h was old holds.
-          let t = c.loop-pieces.invariant.taken (c.read_connection-end.ensures.clean h) was old holds in
+          let t = c.loop-pieces.invariant.taken (c.read_connection-end.ensures.keeps.clean h) was old holds in
           let r = c.read_connection-end.ensures.read h t.is t.new t.holds in
           subst (λ (l : List Ended). HasReadAll g.S.Store limit c.read_connection-end.new.store schema was old (streams_of (take (i + 1) all)) l) (sym c.push_reserved.ensures.items)
-          (next_read g.S.Store limit c.loop-pieces.store c.read_connection-end.new.store schema was old all i pieces ends end c.read_connection-end.ensures.broken more t
+          (next_read g.S.Store limit c.loop-pieces.store c.read_connection-end.new.store schema was old all i pieces ends end c.read_connection-end.ensures.keeps.broken more t
           (subst (λ (l : List (Vec ℕ Global)). HasRead g.S.Store limit c.loop-pieces.store c.read_connection-end.new.store t.is t.new (stream_of l) end) c.as_slice.ensures.value r));
-      following = c.read_connection-end.ensures.following ∙ c.loop-pieces.invariant.following;
-      broken = search rules;
       may_end = subst (λ (l : List Ended). All (λ (e : Ended). IsOwn e.reason) l) (sym c.push_reserved.ensures.items)
           (All-push (λ (e : Ended). IsOwn e.reason) ends end c.loop-pieces.invariant.may_end c.read_connection-end.ensures.may_end);
     }

@@ -1,4 +1,4 @@
-use Rattle.std.proofs.Common.{◌≡◌, ◌≤◌, Bool, true, take, length, vec_len, vec_capacity, All}
+use Rattle.std.proofs.Common.{◌≡◌, ◌≤◌, Bool, take, length, vec_len, vec_capacity, All}
 use Rattle.sqlite.specs.State.{HasCleanDisk}
 use Rattle.sqlite.specs.Held.{state}
 use Rattle.store.specs.State.{Content}
@@ -6,16 +6,15 @@ use Rattle.store.specs.Store.{HoldsAs}
 use Rattle.replica.specs.Conn.{IsOwn}
 use Rattle.replica.specs.Pieces.{streams_of}
 use Rattle.replica.specs.Over.{HasReadAll}
+use Rattle.replica.specs.Keeps.{KeepsStore}
 use Rattle.replica.proofs.connections.run.Given as goal
 
 abbrev pub invariant-loop-pieces : goal.invariant-loop-pieces
 invariant-loop-pieces g l = record {
   room : length l.connections ≤ vec_capacity l.ends;
   count : vec_len l.ends ≡ l.pieces-index;
-  clean : HasCleanDisk (state g.S.Store l.store.conn) → HasCleanDisk (state g.S.Store l.fn.store.conn);
+  keeps : KeepsStore g.S.Store l.fn.store l.store;
   taken : HasCleanDisk (state g.S.Store l.store.conn) → (was : Bool) (old : Content) → HoldsAs g.S.Store was old l.fn.store
       → HasReadAll g.S.Store l.config.limit l.store (state g.S.Store l.fn.store.conn).now.schema was old (streams_of (take l.pieces-index l.connections)) l.ends.items;
-  following : l.store.following ≡ l.fn.store.following;
-  broken : l.fn.store.broken ≡ true → l.store ≡ l.fn.store;
   may_end : All (λ end. IsOwn end.reason) l.ends.items;
 }

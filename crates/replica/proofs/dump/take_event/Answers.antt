@@ -1,8 +1,8 @@
-use Rattle.std.proofs.Common.{[], ◌∷◌, ◌∙◌, subst}
+use Rattle.std.proofs.Common.{[], ◌∷◌, subst}
 use Rattle.gather.specs.View.{delivery_value, delivered}
 use Rattle.replica.specs.PayloadStep.{GathersMore, EndsDump}
-use Rattle.replica.proofs.Noted.{led_nowhere, led_after, waits_more}
 use Rattle.replica.proofs.Events.{ends_early, goes_on}
+use Rattle.replica.proofs.Keeps.{keeps_told, keeps_then}
 use Rattle.replica.proofs.dump.take_event.Goals as goal
 
 pub returns-in-Ok-Some-clause-step : goal.returns-in-Ok-Some-clause-step
@@ -24,14 +24,14 @@ pub returns-in-Err-clause-step : goal.returns-in-Err-clause-step
 returns-in-Err-clause-step g c clean is now es ds stands holds = ends_early g.S.Store es ds c.args.payload.now is now c.args.store.now c.in-Err.reason holds
     (subst (λ f. EndsDump f es c.args.payload.now c.in-Err.reason) c.following.ensures (c.in-Err.ensures.err es ds stands))
 
-pub returns-in-Ok-Some-clause-notes : goal.returns-in-Ok-Some-clause-notes
-returns-in-Ok-Some-clause-notes g c clean was old holds =
-    led_after g.S.Store was old c.args.store.now c.apply.new.store (g.W.Observer.account c.args.observer.now) (g.W.Observer.account c.gather.new.observer) (g.W.Observer.account c.apply.new.observer) [] c.gather.ensures.noted c.gather.ensures.stays c.gather.ensures.waits (c.apply.ensures.notes clean was old holds)
+pub returns-in-Ok-Some-clause-keeps : goal.returns-in-Ok-Some-clause-keeps
+returns-in-Ok-Some-clause-keeps g c =
+    keeps_then g.S.Store (keeps_told g.S.Store c.gather.ensures.noted c.gather.ensures.stays c.gather.ensures.waits) c.apply.ensures.keeps
 
-pub returns-in-Ok-None-clause-notes : goal.returns-in-Ok-None-clause-notes
-returns-in-Ok-None-clause-notes g c clean was old holds = led_nowhere g.S.Store was old c.args.store.now (g.W.Observer.account c.args.observer.now) (g.W.Observer.account c.gather.new.observer) holds c.gather.ensures.noted c.gather.ensures.stays c.gather.ensures.waits
+pub returns-in-Ok-None-clause-keeps : goal.returns-in-Ok-None-clause-keeps
+returns-in-Ok-None-clause-keeps g c = keeps_told g.S.Store c.gather.ensures.noted c.gather.ensures.stays c.gather.ensures.waits
 
-pub returns-in-Err-clause-notes : goal.returns-in-Err-clause-notes
-returns-in-Err-clause-notes g c clean was old holds =
-    led_nowhere g.S.Store was old c.args.store.now (g.W.Observer.account c.args.observer.now) (g.W.Observer.account c.refused.new.self) holds (c.refused.ensures.noted ∙ c.gather.ensures.noted) (λ on. c.refused.ensures.stays (c.gather.ensures.stays on))
-    (waits_more (g.W.Observer.account c.args.observer.now).waits (g.W.Observer.account c.gather.new.observer).waits (g.W.Observer.account c.refused.new.self).waits [] [] c.gather.ensures.waits c.refused.ensures.waits)
+pub returns-in-Err-clause-keeps : goal.returns-in-Err-clause-keeps
+returns-in-Err-clause-keeps g c =
+    keeps_then g.S.Store (keeps_told g.S.Store c.gather.ensures.noted c.gather.ensures.stays c.gather.ensures.waits)
+    (keeps_told g.S.Store c.refused.ensures.noted c.refused.ensures.stays c.refused.ensures.waits)

@@ -1,5 +1,5 @@
-use Rattle.std.proofs.Common.{[], refl}
-use Rattle.replica.proofs.Noted.{since_from, since_through, led_after}
+use Rattle.std.proofs.Common.{refl}
+use Rattle.replica.proofs.Keeps.{keeps_told, keeps_then, since_opened, since_then}
 use Rattle.replica.proofs.followed_file.connect_and_follow.Goals as goal
 
 pub returns-in-Ok-clause-connects : goal.returns-in-Ok-clause-connects
@@ -12,21 +12,10 @@ returns-in-Ok-clause-connects g c clean was old holds =
       reported = followed.reported;
     }
 
-pub returns-in-Ok-clause-heeds : goal.returns-in-Ok-clause-heeds
-returns-in-Ok-clause-heeds g c is now holds on = c.follow_observed-end.ensures.heeds is now holds (c.connected.ensures.stays (c.opened.ensures.stays on))
+pub returns-in-Ok-clause-keeps : goal.returns-in-Ok-clause-keeps
+returns-in-Ok-clause-keeps g c =
+    since_then g.S.Store (λ some. absurd (some refl)) refl (λ some. absurd (some refl)) (since_opened g.S.Store c.executed.ensures.value c.opened.ensures.noted c.opened.ensures.stays c.opened.ensures.waits)
+    (keeps_then g.S.Store (keeps_told g.S.Store c.connected.ensures.noted c.connected.ensures.stays c.connected.ensures.waits) c.follow_observed-end.ensures.keeps)
 
-pub returns-in-Err-clause-heeds : goal.returns-in-Err-clause-heeds
-returns-in-Err-clause-heeds g c is now holds on = refl
-
-pub returns-in-Ok-clause-notes : goal.returns-in-Ok-clause-notes
-returns-in-Ok-clause-notes g c clean was old holds =
-    since_through g.S.Store was old c.args.store.now c.args.store.now c.follow_observed-end.new.store (g.W.Observer.account c.args.observer.now) (g.W.Observer.account c.opened.new.self) (g.W.Observer.account c.follow_observed-end.new.observer) [] [] refl (λ some. absurd (some refl))
-    (since_from g.S.Store was old c.args.store.now c.executed.result.now (g.W.Observer.account c.args.observer.now) (g.W.Observer.account c.opened.new.self) holds (c.executed.ensures.value was old holds) c.opened.ensures.noted c.opened.ensures.stays c.opened.ensures.waits)
-    (λ is now held.
-    led_after g.S.Store is now c.args.store.now c.follow_observed-end.new.store (g.W.Observer.account c.opened.new.self) (g.W.Observer.account c.connected.new.self) (g.W.Observer.account c.follow_observed-end.new.observer) [] c.connected.ensures.noted c.connected.ensures.stays c.connected.ensures.waits
-    (c.follow_observed-end.ensures.notes clean is now held))
-    (λ some. absurd (some refl))
-
-pub returns-in-Err-clause-notes : goal.returns-in-Err-clause-notes
-returns-in-Err-clause-notes g c clean was old holds =
-    since_from g.S.Store was old c.args.store.now c.executed.result.now (g.W.Observer.account c.args.observer.now) (g.W.Observer.account c.opened.new.self) holds (c.executed.ensures.value was old holds) c.opened.ensures.noted c.opened.ensures.stays c.opened.ensures.waits
+pub returns-in-Err-clause-keeps : goal.returns-in-Err-clause-keeps
+returns-in-Err-clause-keeps g c = since_opened g.S.Store c.executed.ensures.value c.opened.ensures.noted c.opened.ensures.stays c.opened.ensures.waits

@@ -10,25 +10,25 @@ use Rattle.replica.proofs.followed_file.follow_file.Goals as goal
 pub returns-clause-follows : goal.returns-clause-follows
 returns-clause-follows g c names content files =
     followed_into _ names content c.in_ok-store.store c.connect_and_follow-connection.new.store (names_for (wanted_of c.args.only)) g.T.Read.remaining g.T.Write.contents g.T.Duplex.failures _ c.args.config c.connect_and_follow-connection.result c.close_file-closed.result
-    c.connect_and_follow-connection.ensures.following (λ clean. let o = c.in_ok-store.ensures.opens (c.connect_and_follow-connection.ensures.clean clean) names content files in (o.0, o.1)) (c.in_ok-store.ensures.leaves names content files) c.connect_and_follow-connection.ensures.connects
+    c.connect_and_follow-connection.ensures.keeps.store.following (λ clean. let o = c.in_ok-store.ensures.opens (c.connect_and_follow-connection.ensures.keeps.store.clean clean) names content files in (o.0, o.1)) (c.in_ok-store.ensures.leaves names content files) c.connect_and_follow-connection.ensures.connects
     c.close_file-closed.ensures.copied c.close_file-closed.ensures.err
 
 pub returns-clause-closing : goal.returns-clause-closing
 returns-clause-closing g c =
     closes_as (wanted_of c.args.only) (image_at g.P.Start) c.in_ok-store.store c.connect_and_follow-connection.new.store.conn c.close_file-closed.result
-    c.connect_and_follow-connection.ensures.clean c.in_ok-store.ensures.opens c.in_ok-store.ensures.entered c.close_file-closed.ensures.copied c.close_file-closed.ensures.err
+    c.connect_and_follow-connection.ensures.keeps.store.clean c.in_ok-store.ensures.opens c.in_ok-store.ensures.entered c.close_file-closed.ensures.copied c.close_file-closed.ensures.err
 
 pub returns-clause-keeps : goal.returns-clause-keeps
 returns-clause-keeps g c on names content files =
     keeps_content _ names content c.in_ok-store.store c.connect_and_follow-connection.new.store (names_for (wanted_of c.args.only)) c.close_file-closed.result
-    c.connect_and_follow-connection.ensures.following (λ clean. let o = c.in_ok-store.ensures.opens (c.connect_and_follow-connection.ensures.clean clean) names content files in (o.0, o.1)) (c.in_ok-store.ensures.leaves names content files)
-    (λ holds. c.connect_and_follow-connection.ensures.heeds false content holds on) c.close_file-closed.ensures.copied c.close_file-closed.ensures.err
+    c.connect_and_follow-connection.ensures.keeps.store.following (λ clean. let o = c.in_ok-store.ensures.opens (c.connect_and_follow-connection.ensures.keeps.store.clean clean) names content files in (o.0, o.1)) (c.in_ok-store.ensures.leaves names content files)
+    (λ holds. c.connect_and_follow-connection.ensures.keeps.heeds false content holds on) c.close_file-closed.ensures.copied c.close_file-closed.ensures.err
 
 pub returns-clause-notes : goal.returns-clause-notes
 returns-clause-notes g c names content files =
     noted_of_files _ names content c.in_ok-store.store c.connect_and_follow-connection.new.store (λ file. inl refl) (g.W.Observer.account c.args.observer.now) (g.W.Observer.account c.connect_and_follow-connection.new.observer) [] c.close_file-closed.result
-    c.connect_and_follow-connection.ensures.following (λ clean. let o = c.in_ok-store.ensures.opens (c.connect_and_follow-connection.ensures.clean clean) names content files in (o.0, o.1))
-    c.connect_and_follow-connection.ensures.notes c.close_file-closed.ensures.copied c.close_file-closed.ensures.err
+    c.connect_and_follow-connection.ensures.keeps.store.following (λ clean. let o = c.in_ok-store.ensures.opens (c.connect_and_follow-connection.ensures.keeps.store.clean clean) names content files in (o.0, o.1))
+    c.connect_and_follow-connection.ensures.keeps.notes c.close_file-closed.ensures.copied c.close_file-closed.ensures.err
 
 pub returns-clause-until : goal.returns-clause-until
 returns-clause-until g c =

@@ -1,4 +1,4 @@
-use Rattle.std.proofs.Common.{Bool, [], if◌then◌else◌, length, arith, ◌≡◌, ◌≢◌, ◌++◌, true, Option, None, is_some, unwrap_or, sym, ap, ◌∙◌, subst, refl, rules}
+use Rattle.std.proofs.Common.{Bool, if◌then◌else◌, length, arith, ◌≡◌, ◌≢◌, ◌++◌, true, Option, None, is_some, unwrap_or, sym, ap, ◌∙◌, subst, refl, rules}
 use Rattle.std.proofs.lemmas.Bool.{false≢true}
 use Rattle.replica.specs.Conn.{reported_as}
 use Rattle.std.proofs.KnownBytes.{Appends-kept, Keeps-trans}
@@ -9,16 +9,16 @@ use Rattle.replica.specs.declared.session.Session.{Session}
 use Rattle.replica.specs.declared.following.Turn.{Turn}
 use Rattle.replica.specs.declared.following.Turn.TheVariants as turn
 use Rattle.replica.specs.Failing.{HaveFailed}
-use Rattle.store.specs.Store.{HoldsAs, database}
+use Rattle.store.specs.Store.{database}
 use Rattle.replica.specs.Conn.{IsNoStreamFailure}
 use Rattle.replica.specs.Noted.{MayEnd}
 use Rattle.replica.specs.Standing.{end_of}
 use Rattle.replica.specs.Follow.{Follows, reads_failed, failed_reads_of, failed_writes_of}
 use Rattle.replica.proofs.Observed.{asked, not_of_stream, still}
-use Rattle.replica.proofs.Noted.{led_nowhere, led_through, waits_none}
 use Rattle.replica.proofs.Failed.{none_failed, failed_later, failed_none, counted_none}
 use Rattle.replica.proofs.Advance.{none_after}
 use Rattle.replica.proofs.Followed.{follows-memory, follows-until, follows-sends_no_more, follows-write_failed, follows-ended, follows-read_failed, following-begins, following-sent, following-read, follows-same, some_after, ended_early, over-out, length_kept}
+use Rattle.replica.proofs.Keeps.{keeps_same, keeps_then}
 use Rattle.replica.proofs.following.follow_observed.Goals as goal
 
 pub returns-then-is_done-clause-follows : goal.returns-then-is_done-clause-follows
@@ -44,13 +44,8 @@ turns-init g c = record {
   reads = refl;
   writes = refl;
   reported = none_failed (g.T.Duplex.failures c.args.stream.now.stream);
-  names = refl;
-  broken = λ h. refl;
-  clean = λ h. h;
+  keeps = keeps_same g.S.Store;
   may_end = rw c.new-session.ensures.ended tt;
-  stays = λ h. h;
-  heeds = λ is now holds on. refl;
-  notes = λ clean was old holds. led_nowhere g.S.Store was old c.args.store.now (g.W.Observer.account c.args.observer.now) (g.W.Observer.account c.args.observer.now) holds refl (λ on. on) (waits_none (g.W.Observer.account c.args.observer.now).waits);
   may = rw c.new-session.ensures.ended tt;
   following = λ clean was old holds.
       following-begins g.S.Store (λ h db is_open may. g.met.S.Store.settled h.store db is_open may) c.new-session.result c.args.store.now was old (g.T.Read.remaining c.args.stream.now.stream) (g.T.Write.contents c.args.stream.now.stream) c.new-session.ensures.ended holds (c.new-session.ensures.stands c.args.store.now.following was old);
@@ -61,7 +56,7 @@ returns-then-sends_no_more-clause-follows g c clean was old holds =
     let session = c.turns.session in
     let inv = c.turns.invariant in
     follows-same g.S.Store session.config c.args.config c.args.store.now c.turns.store was old (g.T.Read.remaining c.args.stream.now.stream) (g.T.Read.remaining c.turns.stream.stream) (g.T.Write.contents c.args.stream.now.stream) (g.T.Write.contents c.turns.stream.stream) (end_of session) c.finish.result inv.config (sym c.finish.ensures.end)
-    (follows-sends_no_more g.S.Store session c.args.store.now c.turns.store was old (g.T.Read.remaining c.args.stream.now.stream) (g.T.Read.remaining c.turns.stream.stream) (g.T.Write.contents c.args.stream.now.stream) (g.T.Write.contents c.turns.stream.stream) inv.names (inv.following clean was old holds) (sym c.sends_no_more.ensures ∙ c.if-sends_no_more.true) inv.may_end)
+    (follows-sends_no_more g.S.Store session c.args.store.now c.turns.store was old (g.T.Read.remaining c.args.stream.now.stream) (g.T.Read.remaining c.turns.stream.stream) (g.T.Write.contents c.args.stream.now.stream) (g.T.Write.contents c.turns.stream.stream) inv.keeps.store.following (inv.following clean was old holds) (sym c.sends_no_more.ensures ∙ c.if-sends_no_more.true) inv.may_end)
 
 pub returns-then-not-send_pending-clause-follows : goal.returns-then-not-send_pending-clause-follows
 returns-then-not-send_pending-clause-follows g c clean was old holds =
@@ -70,7 +65,7 @@ returns-then-not-send_pending-clause-follows g c clean was old holds =
     let sent = c.send_pending.ensures.sent in
     follows-same g.S.Store session.config c.args.config c.args.store.now c.turns.store was old (g.T.Read.remaining c.args.stream.now.stream) (g.T.Read.remaining c.send_pending.new.stream.stream) (g.T.Write.contents c.args.stream.now.stream) (g.T.Write.contents c.send_pending.new.stream.stream) (reported_as WriteFailed (end_of session)) c.ended_with-then-not-send_pending.result inv.config
     (sym (c.ended_with-then-not-send_pending.ensures ∙ ap (λ (e : Ended). reported_as WriteFailed e) sent.4.end))
-    (follows-write_failed g.S.Store session c.args.store.now c.turns.store was old (g.T.Read.remaining c.args.stream.now.stream) (g.T.Read.remaining c.turns.stream.stream) (g.T.Write.contents c.args.stream.now.stream) (g.T.Write.contents c.turns.stream.stream) inv.names (inv.following clean was old holds)
+    (follows-write_failed g.S.Store session c.args.store.now c.turns.store was old (g.T.Read.remaining c.args.stream.now.stream) (g.T.Read.remaining c.turns.stream.stream) (g.T.Write.contents c.args.stream.now.stream) (g.T.Write.contents c.turns.stream.stream) inv.keeps.store.following (inv.following clean was old holds)
     c.send_pending.new.session (g.T.Read.remaining c.send_pending.new.stream.stream) (g.T.Write.contents c.send_pending.new.stream.stream) sent.0 sent.1 c.send_pending.ensures.apart sent.2 sent.4 (sym c.sends_no_more.ensures ∙ c.if-sends_no_more.false) inv.may_end)
 
 pub returns-then-is_some-clause-follows : goal.returns-then-is_some-clause-follows
@@ -84,7 +79,7 @@ returns-then-is_some-clause-follows g c clean was old holds =
     let s = over-out g.S.Store session after c.turns.store (database g.S.Store c.args.store.now).now.schema was old f.read f.sent (sent.0 ++ sent.1) sent.4 f.stands in
     let early : (end_of session).reason ≢ EndOfInput = λ h. ended_early after c.turns.store.following was s.is old s.now f.read (f.sent ++ (sent.0 ++ sent.1)) some s.stands (ap (λ (e : Ended). e.reason) sent.4.end ∙ h) in
     follows-same g.S.Store session.config c.args.config c.args.store.now c.turns.store was old (g.T.Read.remaining c.args.stream.now.stream) (g.T.Read.remaining c.send_pending.new.stream.stream) (g.T.Write.contents c.args.stream.now.stream) (g.T.Write.contents c.send_pending.new.stream.stream) (end_of session) c.finish-then-is_some.result inv.config (sym (c.finish-then-is_some.ensures.end ∙ sent.4.end))
-    (follows-ended g.S.Store session c.args.store.now c.turns.store was old (g.T.Read.remaining c.args.stream.now.stream) (g.T.Read.remaining c.turns.stream.stream) (g.T.Write.contents c.args.stream.now.stream) (g.T.Write.contents c.turns.stream.stream) inv.names f
+    (follows-ended g.S.Store session c.args.store.now c.turns.store was old (g.T.Read.remaining c.args.stream.now.stream) (g.T.Read.remaining c.turns.stream.stream) (g.T.Write.contents c.args.stream.now.stream) (g.T.Write.contents c.turns.stream.stream) inv.keeps.store.following f
     after (g.T.Read.remaining c.send_pending.new.stream.stream) (g.T.Write.contents c.send_pending.new.stream.stream) sent.0 sent.1 c.send_pending.ensures.apart sent.2 sent.4 (sent.3 c.if-not-send_pending.false) inv.may_end (λ h. absurd (early h)))
 
 pub read_piece-requires-clause-going : goal.read_piece-requires-clause-going
@@ -108,22 +103,15 @@ turns-preserved g c =
       writes = search rules;
       reported = failed_later (g.T.Duplex.failures c.args.stream.now.stream) (g.T.Duplex.failures c.turns.stream.stream) (g.T.Duplex.failures c.read_piece.new.stream.stream) 0 0 inv.reported
           (failed_later (g.T.Duplex.failures c.turns.stream.stream) (g.T.Duplex.failures c.send_pending.new.stream.stream) (g.T.Duplex.failures c.read_piece.new.stream.stream) 0 0 (search (rules, c.send_pending.ensures.reported)) (search (rules, c.read_piece.ensures.reported)));
-      names = c.read_piece.ensures.following ∙ inv.names;
-      broken = search rules;
-      clean = λ h. inv.clean (c.read_piece.ensures.clean h);
+      keeps = keeps_then g.S.Store inv.keeps c.read_piece.ensures.keeps;
       may_end = not_of_stream (end_of c.read_piece.new.session).reason (g.W.Observer.account c.read_piece.new.observer) may;
-      stays = λ h. c.read_piece.ensures.stays (inv.stays h);
-      heeds = λ is now holds on. still (HoldsAs g.S.Store is now) c.args.store.now c.turns.store c.read_piece.new.store (inv.heeds is now holds on) holds (λ h. c.read_piece.ensures.heeds is now h (inv.stays on));
-      notes = λ clean was old holds.
-          led_through g.S.Store was old c.args.store.now c.turns.store c.read_piece.new.store (g.W.Observer.account c.args.observer.now) (g.W.Observer.account c.turns.observer) (g.W.Observer.account c.read_piece.new.observer) [] [] inv.names (λ some. absurd (some refl))
-          (inv.notes (c.read_piece.ensures.clean clean) was old holds) (λ is now held. c.read_piece.ensures.notes clean is now held);
       may = may;
       following = λ clean was old holds.
-          let f = inv.following (c.read_piece.ensures.clean clean) was old holds in
-          let sent_f = following-sent g.S.Store session c.args.store.now c.turns.store was old (g.T.Read.remaining c.args.stream.now.stream) (g.T.Read.remaining c.turns.stream.stream) (g.T.Write.contents c.args.stream.now.stream) (g.T.Write.contents c.turns.stream.stream) inv.names f
+          let f = inv.following (c.read_piece.ensures.keeps.store.clean clean) was old holds in
+          let sent_f = following-sent g.S.Store session c.args.store.now c.turns.store was old (g.T.Read.remaining c.args.stream.now.stream) (g.T.Read.remaining c.turns.stream.stream) (g.T.Write.contents c.args.stream.now.stream) (g.T.Write.contents c.turns.stream.stream) inv.keeps.store.following f
           after (g.T.Read.remaining c.send_pending.new.stream.stream) (g.T.Write.contents c.send_pending.new.stream.stream) sent.0 sent.1 c.send_pending.ensures.apart sent.2 sent.4 (sent.3 c.if-not-send_pending.false) in
           following-read g.S.Store after c.read_piece.new.session c.args.store.now c.turns.store c.read_piece.new.store was old (g.T.Read.remaining c.args.stream.now.stream) (g.T.Read.remaining c.send_pending.new.stream.stream) (g.T.Read.remaining c.read_piece.new.stream.stream) (g.T.Write.contents c.args.stream.now.stream) (g.T.Write.contents c.send_pending.new.stream.stream) (g.T.Write.contents c.read_piece.new.stream.stream) read.0
-          sent_f inv.names going (c.read_piece.ensures.config) (omega (arith, read.1, long)) read.2 c.read_piece.ensures.apart (read.3 clean (database g.S.Store c.args.store.now).now.schema was old sent_f.read sent_f.sent sent_f.stands);
+          sent_f inv.keeps.store.following going (c.read_piece.ensures.config) (omega (arith, read.1, long)) read.2 c.read_piece.ensures.apart (read.3 clean (database g.S.Store c.args.store.now).now.schema was old sent_f.read sent_f.sent sent_f.stands);
     }
 
 pub returns-in-AtEnd-clause-follows : goal.returns-in-AtEnd-clause-follows
@@ -134,11 +122,11 @@ returns-in-AtEnd-clause-follows g c clean was old holds =
     let after = c.send_pending.new.session in
     let not_read : c.read_piece.result ≢ turn.Read = λ h. let bad : turn.AtEnd ≡ turn.Read = sym c.in-AtEnd.is ∙ h in cc in
     let still = c.read_piece.ensures.still not_read in
-    let f = inv.following (c.read_piece.ensures.clean clean) was old holds in
+    let f = inv.following (c.read_piece.ensures.keeps.store.clean clean) was old holds in
     subst (λ s. Follows g.S.Store c.args.config c.args.store.now s was old (g.T.Read.remaining c.args.stream.now.stream) (g.T.Read.remaining c.read_piece.new.stream.stream) (g.T.Write.contents c.args.stream.now.stream) (g.T.Write.contents c.read_piece.new.stream.stream) c.finish-in-AtEnd.result) (sym still.1)
     (follows-same g.S.Store session.config c.args.config c.args.store.now c.turns.store was old (g.T.Read.remaining c.args.stream.now.stream) (g.T.Read.remaining c.read_piece.new.stream.stream) (g.T.Write.contents c.args.stream.now.stream) (g.T.Write.contents c.read_piece.new.stream.stream) (end_of session) c.finish-in-AtEnd.result inv.config
     (sym (c.finish-in-AtEnd.ensures.end ∙ ap (λ (s : Session). end_of s) still.0 ∙ sent.4.end))
-    (follows-ended g.S.Store session c.args.store.now c.turns.store was old (g.T.Read.remaining c.args.stream.now.stream) (g.T.Read.remaining c.turns.stream.stream) (g.T.Write.contents c.args.stream.now.stream) (g.T.Write.contents c.turns.stream.stream) inv.names f
+    (follows-ended g.S.Store session c.args.store.now c.turns.store was old (g.T.Read.remaining c.args.stream.now.stream) (g.T.Read.remaining c.turns.stream.stream) (g.T.Write.contents c.args.stream.now.stream) (g.T.Write.contents c.turns.stream.stream) inv.keeps.store.following f
     after (g.T.Read.remaining c.read_piece.new.stream.stream) (g.T.Write.contents c.read_piece.new.stream.stream) sent.0 sent.1 (Keeps-trans (g.T.Read.remaining c.turns.stream.stream) (g.T.Read.remaining c.send_pending.new.stream.stream) (g.T.Read.remaining c.read_piece.new.stream.stream) c.send_pending.ensures.apart still.3) (Appends-kept (g.T.Write.contents c.turns.stream.stream) (g.T.Write.contents c.send_pending.new.stream.stream) (g.T.Write.contents c.read_piece.new.stream.stream) sent.0 sent.2 c.read_piece.ensures.apart)
     sent.4 (sent.3 c.if-not-send_pending.false) inv.may_end (λ h. c.read_piece.ensures.at_end c.in-AtEnd.is)))
 
@@ -150,14 +138,14 @@ returns-in-Failed-clause-follows g c clean was old holds =
     let after = c.send_pending.new.session in
     let not_read : c.read_piece.result ≢ turn.Read = λ h. let bad : turn.Failed ≡ turn.Read = sym c.in-Failed.is ∙ h in cc in
     let still = c.read_piece.ensures.still not_read in
-    let f = inv.following (c.read_piece.ensures.clean clean) was old holds in
+    let f = inv.following (c.read_piece.ensures.keeps.store.clean clean) was old holds in
     let none : after.ended ≡ None = none_after after.ended (some_after c.ended.result after.ended c.ended.ensures ∙ sym c.is_some.ensures ∙ c.if-is_some.false) in
     let at_end : (end_of session).reason ≡ EndOfInput =
     ap (λ (e : Ended). e.reason) (sym sent.4.end ∙ ap (λ (v : Option Ended). unwrap_or v (record { reason = EndOfInput; at = after.at; applied = after.applied })) none) in
     subst (λ s. Follows g.S.Store c.args.config c.args.store.now s was old (g.T.Read.remaining c.args.stream.now.stream) (g.T.Read.remaining c.read_piece.new.stream.stream) (g.T.Write.contents c.args.stream.now.stream) (g.T.Write.contents c.read_piece.new.stream.stream) c.ended_with-in-Failed.result) (sym still.1)
     (follows-same g.S.Store session.config c.args.config c.args.store.now c.turns.store was old (g.T.Read.remaining c.args.stream.now.stream) (g.T.Read.remaining c.read_piece.new.stream.stream) (g.T.Write.contents c.args.stream.now.stream) (g.T.Write.contents c.read_piece.new.stream.stream) (reported_as ReadFailed (end_of session)) c.ended_with-in-Failed.result inv.config
     (sym (c.ended_with-in-Failed.ensures ∙ ap (λ (s : Session). reported_as ReadFailed (end_of s)) still.0 ∙ ap (λ (e : Ended). reported_as ReadFailed e) sent.4.end))
-    (follows-read_failed g.S.Store session c.args.store.now c.turns.store was old (g.T.Read.remaining c.args.stream.now.stream) (g.T.Read.remaining c.turns.stream.stream) (g.T.Write.contents c.args.stream.now.stream) (g.T.Write.contents c.turns.stream.stream) inv.names f
+    (follows-read_failed g.S.Store session c.args.store.now c.turns.store was old (g.T.Read.remaining c.args.stream.now.stream) (g.T.Read.remaining c.turns.stream.stream) (g.T.Write.contents c.args.stream.now.stream) (g.T.Write.contents c.turns.stream.stream) inv.keeps.store.following f
     after (g.T.Read.remaining c.read_piece.new.stream.stream) (g.T.Write.contents c.read_piece.new.stream.stream) sent.0 sent.1 (Keeps-trans (g.T.Read.remaining c.turns.stream.stream) (g.T.Read.remaining c.send_pending.new.stream.stream) (g.T.Read.remaining c.read_piece.new.stream.stream) c.send_pending.ensures.apart still.3) (Appends-kept (g.T.Write.contents c.turns.stream.stream) (g.T.Write.contents c.send_pending.new.stream.stream) (g.T.Write.contents c.read_piece.new.stream.stream) sent.0 sent.2 c.read_piece.ensures.apart)
     sent.4 (sent.3 c.if-not-send_pending.false) at_end))
 
@@ -232,52 +220,6 @@ returns-in-AtEnd-clause-asked g c =
     asked c.finish-in-AtEnd.result.reason (g.W.Observer.account c.read_piece.new.observer)
     (subst (λ o. MayEnd c.finish-in-AtEnd.result.reason (g.W.Observer.account o)) (sym still.2) (subst (λ (e : Ended). MayEnd e.reason (g.W.Observer.account c.turns.observer)) same c.turns.invariant.may))
 
-pub returns-then-sends_no_more-clause-heeds : goal.returns-then-sends_no_more-clause-heeds
-returns-then-sends_no_more-clause-heeds g c = c.turns.invariant.heeds
-
-pub returns-then-not-send_pending-clause-heeds : goal.returns-then-not-send_pending-clause-heeds
-returns-then-not-send_pending-clause-heeds g c = c.turns.invariant.heeds
-
-pub returns-then-is_some-clause-heeds : goal.returns-then-is_some-clause-heeds
-returns-then-is_some-clause-heeds g c = c.turns.invariant.heeds
-
-pub returns-in-AtEnd-clause-heeds : goal.returns-in-AtEnd-clause-heeds
-returns-in-AtEnd-clause-heeds g c is now holds on =
-    let inv = c.turns.invariant in
-    still (HoldsAs g.S.Store is now) c.args.store.now c.turns.store c.read_piece.new.store (inv.heeds is now holds on) holds (λ h. c.read_piece.ensures.heeds is now h (inv.stays on))
-
-pub returns-in-Failed-clause-heeds : goal.returns-in-Failed-clause-heeds
-returns-in-Failed-clause-heeds g c is now holds on =
-    let inv = c.turns.invariant in
-    still (HoldsAs g.S.Store is now) c.args.store.now c.turns.store c.read_piece.new.store (inv.heeds is now holds on) holds (λ h. c.read_piece.ensures.heeds is now h (inv.stays on))
-
-pub returns-then-is_done-clause-notes : goal.returns-then-is_done-clause-notes
-returns-then-is_done-clause-notes g c clean was old holds = led_nowhere g.S.Store was old c.args.store.now (g.W.Observer.account c.args.observer.now) (g.W.Observer.account c.args.observer.now) holds refl (λ on. on) (waits_none (g.W.Observer.account c.args.observer.now).waits)
-
-pub returns-in_default-clause-notes : goal.returns-in_default-clause-notes
-returns-in_default-clause-notes g c clean was old holds = led_nowhere g.S.Store was old c.args.store.now (g.W.Observer.account c.args.observer.now) (g.W.Observer.account c.args.observer.now) holds refl (λ on. on) (waits_none (g.W.Observer.account c.args.observer.now).waits)
-
-pub returns-then-sends_no_more-clause-notes : goal.returns-then-sends_no_more-clause-notes
-returns-then-sends_no_more-clause-notes g c = c.turns.invariant.notes
-
-pub returns-then-not-send_pending-clause-notes : goal.returns-then-not-send_pending-clause-notes
-returns-then-not-send_pending-clause-notes g c = c.turns.invariant.notes
-
-pub returns-then-is_some-clause-notes : goal.returns-then-is_some-clause-notes
-returns-then-is_some-clause-notes g c = c.turns.invariant.notes
-
-pub returns-in-AtEnd-clause-notes : goal.returns-in-AtEnd-clause-notes
-returns-in-AtEnd-clause-notes g c clean was old holds =
-    let inv = c.turns.invariant in
-    led_through g.S.Store was old c.args.store.now c.turns.store c.read_piece.new.store (g.W.Observer.account c.args.observer.now) (g.W.Observer.account c.turns.observer) (g.W.Observer.account c.read_piece.new.observer) [] [] inv.names (λ some. absurd (some refl))
-    (inv.notes (c.read_piece.ensures.clean clean) was old holds) (λ is now held. c.read_piece.ensures.notes clean is now held)
-
-pub returns-in-Failed-clause-notes : goal.returns-in-Failed-clause-notes
-returns-in-Failed-clause-notes g c clean was old holds =
-    let inv = c.turns.invariant in
-    led_through g.S.Store was old c.args.store.now c.turns.store c.read_piece.new.store (g.W.Observer.account c.args.observer.now) (g.W.Observer.account c.turns.observer) (g.W.Observer.account c.read_piece.new.observer) [] [] inv.names (λ some. absurd (some refl))
-    (inv.notes (c.read_piece.ensures.clean clean) was old holds) (λ is now held. c.read_piece.ensures.notes clean is now held)
-
 pub returns-then-is_done-clause-until : goal.returns-then-is_done-clause-until
 returns-then-is_done-clause-until g c none =
     let session = c.new-session.result in
@@ -307,3 +249,15 @@ returns-in-AtEnd-clause-until g c none = absurd (false≢true (sym c.if-is_done.
 
 pub returns-in-Failed-clause-until : goal.returns-in-Failed-clause-until
 returns-in-Failed-clause-until g c none = absurd (false≢true (sym c.if-is_done.false ∙ c.is_done.ensures.done ∙ none))
+
+pub returns-then-is_done-clause-keeps : goal.returns-then-is_done-clause-keeps
+returns-then-is_done-clause-keeps g c = keeps_same g.S.Store
+
+pub returns-in_default-clause-keeps : goal.returns-in_default-clause-keeps
+returns-in_default-clause-keeps g c = keeps_same g.S.Store
+
+pub returns-in-AtEnd-clause-keeps : goal.returns-in-AtEnd-clause-keeps
+returns-in-AtEnd-clause-keeps g c = keeps_then g.S.Store c.turns.invariant.keeps c.read_piece.ensures.keeps
+
+pub returns-in-Failed-clause-keeps : goal.returns-in-Failed-clause-keeps
+returns-in-Failed-clause-keeps g c = keeps_then g.S.Store c.turns.invariant.keeps c.read_piece.ensures.keeps

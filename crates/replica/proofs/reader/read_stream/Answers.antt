@@ -2,34 +2,28 @@ use Rattle.std.proofs.Common.{rules, length, inl, ◌≡◌, ◌++◌, ◌∙◌
 use Rattle.std.proofs.KnownBytes.{Consumes-nil, Keeps-refl}
 use Rattle.std.specs.Io.KnownBytes.{Consumes}
 use Rattle.sqlite.specs.Held.{state}
-use Rattle.store.specs.Store.{HoldsAs}
 use Rattle.replica.specs.declared.end.Reason.TheVariants.{EndOfInput}
 use Rattle.replica.specs.declared.end.Ended.{Ended}
 use Rattle.replica.specs.Standing.{end_of}
 use Rattle.replica.specs.Over.{StandsOver}
 use Rattle.replica.specs.Noted.{MayEnd}
-use Rattle.replica.proofs.Observed.{may_later, still}
-use Rattle.replica.proofs.Noted.{led_through, led_after}
+use Rattle.replica.proofs.Observed.{may_later}
 use Rattle.replica.proofs.Advance.{none_after}
 use Rattle.replica.proofs.Runs.{begins}
 use Rattle.replica.proofs.FromReader.{taking_more, taken, no_end, is_ended, not_ended, going_on, Keeps-from_none}
+use Rattle.replica.proofs.Keeps.{keeps_told, keeps_then}
 use Rattle.replica.proofs.reader.read_stream.Goals as goal
 
 pub loop-reader-init : goal.loop-reader-init
 loop-reader-init g c = record {
   some = search rules;
   may = c.feed_observed.ensures.may_end (rw c.new-session.ensures.ended tt);
-  stays = λ h. c.feed_observed.ensures.stays (c.received.ensures.stays h);
-  heeds = λ is now holds on. c.feed_observed.ensures.heeds is now holds (c.received.ensures.stays on);
-  notes = λ clean was old holds.
-      led_after g.S.Store was old c.args.store.now c.feed_observed.new.store (g.W.Observer.account c.args.observer.now) (g.W.Observer.account c.received.new.self) (g.W.Observer.account c.feed_observed.new.observer) [] c.received.ensures.noted c.received.ensures.stays c.received.ensures.waits (c.feed_observed.ensures.notes clean was old holds);
+  keeps = keeps_then g.S.Store (keeps_told g.S.Store c.received.ensures.noted c.received.ensures.stays c.received.ensures.waits) c.feed_observed.ensures.keeps;
   taking = record {
     read = [];
     consumes = Consumes-nil (g.R.Read.remaining c.args.reader.now);
     limit_is = ap (λ s. s.limit) (c.feed_observed.ensures.config ∙ c.new-session.ensures.config);
-    following = c.feed_observed.ensures.following;
-    broken = c.feed_observed.ensures.broken;
-    clean = c.feed_observed.ensures.clean;
+    keeps = c.feed_observed.ensures.keeps.store;
     stands = λ h was old holds. subst (λ (l : List ℕ). StandsOver g.S.Store c.feed_observed.new.self c.feed_observed.new.store (state g.S.Store c.args.store.now.conn).now.schema was old l []) (sym (append-nil c.args.first.now))
         (c.feed_observed.ensures.stands h (state g.S.Store c.args.store.now.conn).now.schema was old [] []
         (begins g.S.Store (λ h db is_open may. g.met.S.Store.settled h.store db is_open may) c.new-session.result c.args.store.now was old holds (c.new-session.ensures.stands c.args.store.now.following was old)));
@@ -42,21 +36,12 @@ loop-reader-preserved g c = record {
   some = search rules;
   may = c.feed_observed-in-Ok.ensures.may_end
       (may_later (end_of c.loop-reader.session).reason (g.W.Observer.account c.loop-reader.observer) (g.W.Observer.account c.received-in-Ok.new.self) [] c.received-in-Ok.ensures.stays c.received-in-Ok.ensures.waits c.loop-reader.invariant.may);
-  stays = λ h. c.feed_observed-in-Ok.ensures.stays (c.received-in-Ok.ensures.stays (c.loop-reader.invariant.stays h));
-  heeds = λ is now holds on.
-      let inv = c.loop-reader.invariant in
-      still (HoldsAs g.S.Store is now) c.args.store.now c.loop-reader.store c.feed_observed-in-Ok.new.store (inv.heeds is now holds on) holds (λ h. c.feed_observed-in-Ok.ensures.heeds is now h (c.received-in-Ok.ensures.stays (inv.stays on)));
-  notes = λ clean was old holds.
-      let inv = c.loop-reader.invariant in
-      led_through g.S.Store was old c.args.store.now c.loop-reader.store c.feed_observed-in-Ok.new.store (g.W.Observer.account c.args.observer.now) (g.W.Observer.account c.loop-reader.observer) (g.W.Observer.account c.feed_observed-in-Ok.new.observer) [] [] inv.taking.following (λ some. absurd (some refl))
-      (inv.notes (c.feed_observed-in-Ok.ensures.clean clean) was old holds)
-      (λ is now held.
-      led_after g.S.Store is now c.loop-reader.store c.feed_observed-in-Ok.new.store (g.W.Observer.account c.loop-reader.observer) (g.W.Observer.account c.received-in-Ok.new.self) (g.W.Observer.account c.feed_observed-in-Ok.new.observer) [] c.received-in-Ok.ensures.noted c.received-in-Ok.ensures.stays c.received-in-Ok.ensures.waits
-      (c.feed_observed-in-Ok.ensures.notes clean is now held));
+  keeps = keeps_then g.S.Store c.loop-reader.invariant.keeps
+      (keeps_then g.S.Store (keeps_told g.S.Store c.received-in-Ok.ensures.noted c.received-in-Ok.ensures.stays c.received-in-Ok.ensures.waits) c.feed_observed-in-Ok.ensures.keeps);
   taking = taking_more g.S.Store c.args.config.limit (length c.args.piece.now) c.args.first.now c.args.store.now c.loop-reader.session c.loop-reader.store (g.R.Read.remaining c.args.reader.now) (g.R.Read.remaining c.loop-reader.reader)
       c.feed_observed-in-Ok.new.self c.feed_observed-in-Ok.new.store (g.R.Read.remaining c.read_some.new.reader) (take c.in-Ok.count c.read_some.new.piece) c.loop-reader.invariant.taking
       (none_after c.loop-reader.session.ended (not_ended (λ e. e.now) c.ended.result c.loop-reader.session.ended c.ended.ensures c.loop-reader-test.ensures)) (search rules) c.in-Ok.ensures.bytes.0
-      c.feed_observed-in-Ok.ensures.config c.feed_observed-in-Ok.ensures.following c.feed_observed-in-Ok.ensures.broken c.feed_observed-in-Ok.ensures.clean c.feed_observed-in-Ok.ensures.stands;
+      c.feed_observed-in-Ok.ensures.config c.feed_observed-in-Ok.ensures.keeps.store c.feed_observed-in-Ok.ensures.stands;
 }
 
 pub returns-in-Ok-eq0-clause-read : goal.returns-in-Ok-eq0-clause-read
@@ -86,32 +71,5 @@ returns-clause-all g c clean was old holds same =
     (is_ended (λ e. e.now) c.ended.result c.loop-reader.session.ended c.ended.ensures c.loop-reader-test.ensures) s.stands
     (subst (λ (e : Ended). e.reason ≡ EndOfInput) c.finish-2.ensures.end same))
 
-pub returns-in-Ok-eq0-clause-stays : goal.returns-in-Ok-eq0-clause-stays
-returns-in-Ok-eq0-clause-stays g c = c.loop-reader.invariant.stays
-
-pub returns-in-Err-clause-stays : goal.returns-in-Err-clause-stays
-returns-in-Err-clause-stays g c = c.loop-reader.invariant.stays
-
-pub returns-clause-stays : goal.returns-clause-stays
-returns-clause-stays g c = c.loop-reader.invariant.stays
-
-pub returns-in-Ok-eq0-clause-heeds : goal.returns-in-Ok-eq0-clause-heeds
-returns-in-Ok-eq0-clause-heeds g c = c.loop-reader.invariant.heeds
-
-pub returns-in-Err-clause-heeds : goal.returns-in-Err-clause-heeds
-returns-in-Err-clause-heeds g c = c.loop-reader.invariant.heeds
-
-pub returns-clause-heeds : goal.returns-clause-heeds
-returns-clause-heeds g c = c.loop-reader.invariant.heeds
-
 pub returns-clause-may_end : goal.returns-clause-may_end
 returns-clause-may_end g c = subst (λ (e : Ended). MayEnd e.reason (g.W.Observer.account c.loop-reader.observer)) (sym c.finish-2.ensures.end) c.loop-reader.invariant.may
-
-pub returns-in-Ok-eq0-clause-notes : goal.returns-in-Ok-eq0-clause-notes
-returns-in-Ok-eq0-clause-notes g c = c.loop-reader.invariant.notes
-
-pub returns-in-Err-clause-notes : goal.returns-in-Err-clause-notes
-returns-in-Err-clause-notes g c = c.loop-reader.invariant.notes
-
-pub returns-clause-notes : goal.returns-clause-notes
-returns-clause-notes g c = c.loop-reader.invariant.notes

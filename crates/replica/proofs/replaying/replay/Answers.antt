@@ -13,25 +13,25 @@ use Rattle.replica.proofs.replaying.replay.Goals as goal
 pub returns-clause-replays : goal.returns-clause-replays
 returns-clause-replays g c names content files =
     replayed _ names content c.in_ok-store.store c.read_captures-read.new.store c.args.config.now.limit g.R.Read.remaining c.args.captures.items c.read_captures-read.new.ends.items c.read_captures-read.result c.close_file-closed.result
-    c.read_captures-read.ensures.following (λ clean. let o = c.in_ok-store.ensures.opens (c.read_captures-read.ensures.clean clean) names content files in (o.0, o.1)) c.read_captures-read.ensures.reads
+    c.read_captures-read.ensures.keeps.store.following (λ clean. let o = c.in_ok-store.ensures.opens (c.read_captures-read.ensures.keeps.store.clean clean) names content files in (o.0, o.1)) c.read_captures-read.ensures.reads
     c.close_file-closed.ensures.copied c.close_file-closed.ensures.err
 
 pub returns-clause-closing : goal.returns-clause-closing
 returns-clause-closing g c =
     closes_as (wanted_of c.args.only) (image_at g.P.Start) c.in_ok-store.store c.read_captures-read.new.store.conn c.close_file-closed.result
-    c.read_captures-read.ensures.clean c.in_ok-store.ensures.opens c.in_ok-store.ensures.entered c.close_file-closed.ensures.copied c.close_file-closed.ensures.err
+    c.read_captures-read.ensures.keeps.store.clean c.in_ok-store.ensures.opens c.in_ok-store.ensures.entered c.close_file-closed.ensures.copied c.close_file-closed.ensures.err
 
 pub returns-clause-keeps : goal.returns-clause-keeps
 returns-clause-keeps g c on names content files =
     keeps_content _ names content c.in_ok-store.store c.read_captures-read.new.store (names_for (wanted_of c.args.only)) c.close_file-closed.result
-    c.read_captures-read.ensures.following (λ clean. let o = c.in_ok-store.ensures.opens (c.read_captures-read.ensures.clean clean) names content files in (o.0, o.1)) (c.in_ok-store.ensures.leaves names content files)
-    (λ holds. c.read_captures-read.ensures.keeps false content holds on) c.close_file-closed.ensures.copied c.close_file-closed.ensures.err
+    c.read_captures-read.ensures.keeps.store.following (λ clean. let o = c.in_ok-store.ensures.opens (c.read_captures-read.ensures.keeps.store.clean clean) names content files in (o.0, o.1)) (c.in_ok-store.ensures.leaves names content files)
+    (λ holds. c.read_captures-read.ensures.keeps.heeds false content holds on) c.close_file-closed.ensures.copied c.close_file-closed.ensures.err
 
 pub returns-clause-notes : goal.returns-clause-notes
 returns-clause-notes g c names content files =
     noted_of_files _ names content c.in_ok-store.store c.read_captures-read.new.store (λ file. inl refl) (g.W.Observer.account c.args.observer.now) (g.W.Observer.account c.read_captures-read.new.observer) c.read_captures-read.new.ends.items c.close_file-closed.result
-    c.read_captures-read.ensures.following (λ clean. let o = c.in_ok-store.ensures.opens (c.read_captures-read.ensures.clean clean) names content files in (o.0, o.1))
-    c.read_captures-read.ensures.notes c.close_file-closed.ensures.copied c.close_file-closed.ensures.err
+    c.read_captures-read.ensures.keeps.store.following (λ clean. let o = c.in_ok-store.ensures.opens (c.read_captures-read.ensures.keeps.store.clean clean) names content files in (o.0, o.1))
+    c.read_captures-read.ensures.keeps.notes c.close_file-closed.ensures.copied c.close_file-closed.ensures.err
 
 pub returns-clause-until : goal.returns-clause-until
 returns-clause-until g c names content wanted files wants =

@@ -4,7 +4,7 @@ use Rattle.wire.specs.Payload.{ReaderState, IsWholePayload}
 use Rattle.replica.specs.declared.end.Reason.{Reason}
 use Rattle.replica.specs.declared.session.Session.{Session}
 use Rattle.replica.proofs.Advance.{over-append, over-fault, over-unfinished, over-payload, none_after, at_some, at_none}
-use Rattle.replica.proofs.Noted.{led_nowhere, waits_none}
+use Rattle.replica.proofs.Keeps.{keeps_same}
 use Rattle.replica.proofs.session.Session.advance.Goals as goal
 
 pub returns-then-is_some-clause-stands : goal.returns-then-is_some-clause-stands
@@ -45,14 +45,11 @@ returns-clause-stands g c clean schema was old b o s =
     (over-payload g.S.Store c.args.store.now schema was old b o self _ (take used c.args.bytes.now) c.in_ok-payload.payload.items c.step.new.self.due (none_after self.ended (sym c.is_some.ensures ∙ c.if-is_some.false))
     refl w.1 refl refl refl refl refl w.0 s))
 
-pub returns-then-is_some-clause-notes : goal.returns-then-is_some-clause-notes
-returns-then-is_some-clause-notes g c clean was old holds = led_nowhere g.S.Store was old c.args.store.now (g.W.Observer.account c.args.observer.now) (g.W.Observer.account c.args.observer.now) holds refl (λ on. on) (waits_none (g.W.Observer.account c.args.observer.now).waits)
+pub returns-then-is_some-clause-keeps : goal.returns-then-is_some-clause-keeps
+returns-then-is_some-clause-keeps g c = keeps_same g.S.Store
 
-pub returns-in-Err-clause-notes : goal.returns-in-Err-clause-notes
-returns-in-Err-clause-notes g c clean was old holds = led_nowhere g.S.Store was old c.args.store.now (g.W.Observer.account c.args.observer.now) (g.W.Observer.account c.args.observer.now) holds refl (λ on. on) (waits_none (g.W.Observer.account c.args.observer.now).waits)
+pub returns-in-Err-clause-keeps : goal.returns-in-Err-clause-keeps
+returns-in-Err-clause-keeps g c = keeps_same g.S.Store
 
-pub returns-in_err-payload-clause-notes : goal.returns-in_err-payload-clause-notes
-returns-in_err-payload-clause-notes g c clean was old holds = led_nowhere g.S.Store was old c.args.store.now (g.W.Observer.account c.args.observer.now) (g.W.Observer.account c.args.observer.now) holds refl (λ on. on) (waits_none (g.W.Observer.account c.args.observer.now).waits)
-
-pub returns-clause-notes : goal.returns-clause-notes
-returns-clause-notes g c = c.take.ensures.notes
+pub returns-in_err-payload-clause-keeps : goal.returns-in_err-payload-clause-keeps
+returns-in_err-payload-clause-keeps g c = keeps_same g.S.Store

@@ -1,4 +1,4 @@
-use Rattle.std.proofs.Common.{◌≡◌, ◌+◌, ◌^◌, ◌≤◌, ◌++◌, refl, sym, ap, subst, ◌∙◌, length, arith}
+use Rattle.std.proofs.Common.{◌≡◌, ◌+◌, ◌^◌, ◌≤◌, ◌++◌, sym, ap, subst, ◌∙◌, length, arith}
 use Rattle.wire.specs.Packet.{packing_length}
 use Rattle.wire.specs.declared.fault.WireFault.TheVariants as wire
 use Rattle.replica.specs.declared.end.Reason.TheVariants.{Wire}
@@ -7,7 +7,7 @@ use Rattle.replica.specs.Standing.{HasEnded, end_of}
 use Rattle.replica.proofs.PayloadSteps.{rest_length, too_far, stands_ended, room_left}
 use Rattle.replica.proofs.Dumping.{over_same}
 use Rattle.replica.proofs.Observed.{own_may}
-use Rattle.replica.proofs.Noted.{led_nowhere, waits_none}
+use Rattle.replica.proofs.Keeps.{keeps_same}
 use Rattle.replica.proofs.session.Session.take.Goals as goal
 
 pub returns-in_default-clause-takes : goal.returns-in_default-clause-takes
@@ -29,22 +29,14 @@ returns-in-Login g c =
     let n = packing_length (length c.args.payload.now) in
     let ends : c.in-Some.end ≡ s.at + n = c.in-Some.ensures.1 ∙ ap (λ k. s.at + k) c.packing_length.ensures in
     record {
-      clean = λ h. h;
-      following = refl;
-      broken = λ _. refl;
+      keeps = keeps_same g.S.Store;
       config = c.take_message.ensures.config;
       may_end = own_may (end_of c.take_message.new.self).reason (g.W.Observer.account c.args.observer.now) c.take_message.ensures.may_end;
-      stays = λ h. h;
-      notes = λ clean was old holds. led_nowhere g.S.Store was old c.args.store.now (g.W.Observer.account c.args.observer.now) (g.W.Observer.account c.args.observer.now) holds refl (λ on. on) (waits_none (g.W.Observer.account c.args.observer.now).waits);
-      heeds = λ is now holds on. refl;
       room = λ none. let f = c.take_message.ensures.further none in room_left s c.take_message.new.self c.in-Some.end n f.0 f.1 c.requires.between.0 ends (omega (arith, c.in-Some.ensures));
       takes = λ clean schema was old b o m.
           over_same g.S.Store (λ h db is_open may. g.met.S.Store.settled h.store db is_open may) s c.take_message.new.self c.args.store.now schema was old b o c.args.payload.now m
           (c.take_message.ensures.takes c.args.store.now.following was m.is old m.now b o (c.executed.ensures.value m.is m.now m.holds) ends m.meets);
     }
 
-pub returns-in_default-clause-notes : goal.returns-in_default-clause-notes
-returns-in_default-clause-notes g c clean was old holds = led_nowhere g.S.Store was old c.args.store.now (g.W.Observer.account c.args.observer.now) (g.W.Observer.account c.args.observer.now) holds refl (λ on. on) (waits_none (g.W.Observer.account c.args.observer.now).waits)
-
-pub returns-in-Dump-clause-notes : goal.returns-in-Dump-clause-notes
-returns-in-Dump-clause-notes g c = c.take_dump.ensures.notes
+pub returns-in_default-clause-keeps : goal.returns-in_default-clause-keeps
+returns-in_default-clause-keeps g c = keeps_same g.S.Store

@@ -16,7 +16,7 @@ returns-then-not-applied-clause-takes g c clean schema was old b o ends m =
     let end_at : c.args.end ≡ s.at + length m.meets.reading.rest =
     ends ∙ ap (λ k. s.at + k) (sym (rest_length s.config s.assembler s.gatherer s.phase s.at s.applied store.following was m.is old m.now b (o ++ s.out.items) p m.meets)) in
     let t = c.in-Ok.ensures.step clean m.is m.now m.meets.reading.events m.meets.reading.deliveries m.meets.gathers m.holds in
-    dump_goes_on g.S.Store (λ h db is_open may. g.met.S.Store.settled h.store db is_open may) s store after schema was old b o p m c.take_event.ensures.following
+    dump_goes_on g.S.Store (λ h db is_open may. g.met.S.Store.settled h.store db is_open may) s store after schema was old b o p m c.take_event.ensures.keeps.store.following
     c.go_on.new.self c.take_event.new.gatherer c.in-Ok.applied (c.go_on.ensures.ended ∙ c.requires.going) t
     (moved _ c.go_on.new.self c.args.end (s.applied + n) store.following was m.is old t.after b o c.go_on.ensures
     (event_goes_on s.config s.assembler s.gatherer s.phase s.at s.applied store.following was m.is old m.now b (o ++ s.out.items) p m.meets (ap due_of c.requires.in_dump)
@@ -33,7 +33,7 @@ returns-clause-takes g c clean schema was old b o ends m =
     let end_at : c.args.end ≡ s.at + length m.meets.reading.rest =
     ends ∙ ap (λ k. s.at + k) (sym (rest_length s.config s.assembler s.gatherer s.phase s.at s.applied store.following was m.is old m.now b (o ++ s.out.items) p m.meets)) in
     let t = c.in-Ok.ensures.step clean m.is m.now m.meets.reading.events m.meets.reading.deliveries m.meets.gathers m.holds in
-    dump_goes_on g.S.Store (λ h db is_open may. g.met.S.Store.settled h.store db is_open may) s store after schema was old b o p m c.take_event.ensures.following
+    dump_goes_on g.S.Store (λ h db is_open may. g.met.S.Store.settled h.store db is_open may) s store after schema was old b o p m c.take_event.ensures.keeps.store.following
     c.go_on.new.self c.take_event.new.gatherer c.in-Ok.applied (c.go_on.ensures.ended ∙ c.requires.going) t
     (moved _ c.go_on.new.self c.args.end (s.applied + n) store.following was m.is old t.after b o c.go_on.ensures
     (event_goes_on s.config s.assembler s.gatherer s.phase s.at s.applied store.following was m.is old m.now b (o ++ s.out.items) p m.meets (ap due_of c.requires.in_dump)
@@ -52,7 +52,7 @@ returns-then-is_done-clause-takes g c clean schema was old b o ends m =
     let t = c.in-Ok.ensures.step clean m.is m.now m.meets.reading.events m.meets.reading.deliveries m.meets.gathers m.holds in
     let same = sym c.end.ensures in
     let goes : Session → _ = λ (x : Session). GoesOn x.config x.assembler x.gatherer x.phase x.at x.applied store.following was m.is old t.after b (o ++ x.out.items) in
-    dump_until g.S.Store (λ h db is_open may. g.met.S.Store.settled h.store db is_open may) s store after schema was old b o p m c.take_event.ensures.following
+    dump_until g.S.Store (λ h db is_open may. g.met.S.Store.settled h.store db is_open may) s store after schema was old b o p m c.take_event.ensures.keeps.store.following
     c.end.new.self c.take_event.new.gatherer c.in-Ok.applied _ (ap (λ (x : Session). x.ended) c.end.ensures) (rw c.end.ensures refl) t
     (subst goes same
     (moved _ c.go_on.new.self c.args.end (s.applied + n) store.following was m.is old t.after b o c.go_on.ensures
@@ -63,17 +63,5 @@ pub returns-in-Err-clause-takes : goal.returns-in-Err-clause-takes
 returns-in-Err-clause-takes g c clean schema was old b o ends m =
     let s = c.args.self.now in
     let t = c.in-Err.ensures.step clean m.is m.now m.meets.reading.events m.meets.reading.deliveries m.meets.gathers m.holds in
-    dump_ends g.S.Store (λ h db is_open may. g.met.S.Store.settled h.store db is_open may) s c.args.store.now c.take_event.new.store schema was old b o c.args.payload.now m c.take_event.ensures.following
+    dump_ends g.S.Store (λ h db is_open may. g.met.S.Store.settled h.store db is_open may) s c.args.store.now c.take_event.new.store schema was old b o c.args.payload.now m c.take_event.ensures.keeps.store.following
     c.end_after.new.self c.args.end (ap due_of c.requires.in_dump) ends (omega (arith, c.ranges.end.fits)) c.end_after.ensures.config (ap (λ v. v.items) c.end_after.ensures.out) c.in-Err.reason c.end_after.ensures.ended t
-
-pub returns-then-not-applied-clause-notes : goal.returns-then-not-applied-clause-notes
-returns-then-not-applied-clause-notes g c = c.take_event.ensures.notes
-
-pub returns-then-is_done-clause-notes : goal.returns-then-is_done-clause-notes
-returns-then-is_done-clause-notes g c = c.take_event.ensures.notes
-
-pub returns-clause-notes : goal.returns-clause-notes
-returns-clause-notes g c = c.take_event.ensures.notes
-
-pub returns-in-Err-clause-notes : goal.returns-in-Err-clause-notes
-returns-in-Err-clause-notes g c = c.take_event.ensures.notes
