@@ -1,13 +1,12 @@
 -- A database file that was changed by transactions that no connection carries.
-use Rattle.std.proofs.Common.{◌≡◌, ℕ, Bool, true, false, List, [], Option, Result, Ok, Err, IfOk, IfErr, IsTrue, refl, sym, subst, ◌∙◌, arith}
+use Rattle.std.proofs.Common.{◌≡◌, ℕ, Bool, true, false, List, [], Result, Ok, Err, IfOk, IfErr, refl, subst, ◌∙◌, arith}
 use Rattle.sqlite_disk.specs.declared.Disk.{Ghosts}
 use Rattle.sqlite_disk.specs.declared.Files.{Files}
 use Rattle.sqlite_wal.specs.Reads.{AreClean}
 use Rattle.sqlite_trees.specs.declared.store.Store.{Ghosts as StoreGhosts}
-use Rattle.sqlite_trees.specs.Tree.{Trees}
 use Rattle.sqlite_trees.specs.View.{IsClean}
 use Rattle.sqlite_store.specs.declared.store.FileStore.{FileStore}
-use Rattle.sqlite_store.specs.FileStore.{view, recovers}
+use Rattle.sqlite_store.specs.FileStore.{view}
 use Rattle.sqlite_wal.proofs.LogLemmas.{SeenMayStay}
 use Rattle.sqlite_store.specs.Laws.{settled_at}
 use Rattle.sqlite.specs.declared.error.Error.{Error}
@@ -16,7 +15,6 @@ use Rattle.sqlite.specs.Files.{over_files, file_state, IsClosed, FailsToClose}
 use Rattle.sqlite.specs.Closing.{IsCopied}
 use Rattle.gtid.specs.Identifier.{Ids}
 use Rattle.binlog.specs.Filter.{Names}
-use Rattle.gather.specs.Transaction.{DeliveryValue}
 use Rattle.store.specs.State.{Content}
 use Rattle.store.specs.Changes.{adopted}
 use Rattle.store.specs.declared.fault.StoreFault.{StoreFault}
@@ -27,7 +25,7 @@ use Rattle.store.specs.Entering.{IsLeft}
 use Rattle.replica.specs.declared.end.Ended.{Ended}
 use Rattle.replica.specs.declared.changing.ChangeEnd.{ChangeEnd}
 use Rattle.replica.specs.declared.changing.ChangeEnd.TheVariants.{AllGiven, NotGiven, Stopped, TooMany, NotAdopted}
-use Rattle.replica.specs.File.{AreClosedWith, KeepsContent}
+use Rattle.replica.specs.File.{KeepsContent}
 use Rattle.replica.specs.Noted.{Account, IsNotedOf, IsLedTo}
 use Rattle.replica.specs.NotedFile.{IsNotedOfChange}
 use Rattle.replica.specs.Change.{IsAdopted, UnlessAdopted, begun_with, IsLeftOfChange}

@@ -1,17 +1,17 @@
 -- What loading a first copy comes to.
-use Rattle.std.proofs.Common.{◌≡◌, ℕ, ◌+◌, ◌≤◌, Bool, ◌||◌, true, false, List, [], ◌∷◌, ◌++◌, length, inl, inr, refl, sym, ap, subst, ◌∙◌, append_assoc, append-nil, arith}
+use Rattle.std.proofs.Common.{◌≡◌, ℕ, ◌+◌, Bool, ◌||◌, true, false, List, [], ◌∷◌, ◌++◌, length, inl, inr, refl, sym, ap, subst, ◌∙◌, arith}
 use Rattle.std.specs.FinSet as set
 use Rattle.std.specs.List.{AllByRecursion}
 use Rattle.std.specs.Ordering.{eq_by_cmp}
 use Rattle.std.specs.Cmp.{Equal-is}
 use Rattle.std.specs.Prelude.{MatchBool}
-use Rattle.std.proofs.lemmas.Bool.{false≢true, or_cases, or_from, or_parts, false_from_ne_true}
+use Rattle.std.proofs.lemmas.Bool.{false≢true, or_from, false_from_ne_true}
 use Rattle.gtid.specs.Identifier.{Id, Ids, id_cmp}
 use Rattle.gtid.proofs.Sets.{id_cmp_total, id_cmp-same}
 use Rattle.binlog.specs.Filter.{Names}
 use Rattle.gather.specs.Transaction.{ChangeValue, insert, delete, update, DeliveryValue}
-use Rattle.store.specs.State.{Content, TableRow, row_of, Bag}
-use Rattle.store.specs.Changes.{IsMade, IsDone, AreDone, HasOutcome, done, repeat, is_admitted, is_executed, adopted, with_executed}
+use Rattle.store.specs.State.{Content, TableRow, Bag}
+use Rattle.store.specs.Changes.{IsMade, AreDone, is_executed, adopted}
 use Rattle.store.proofs.Adopted.{nothing_new}
 use Rattle.replica.specs.Conn.{AppliesAll}
 use Rattle.replica.specs.Copied.{AreAdded, AreAdditions, AreCopied, AreNumbered, NoneExecuted, with_all, AreOutside}

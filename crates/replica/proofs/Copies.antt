@@ -1,5 +1,5 @@
 -- Sets with GTIDs of copies alone, and the tables of a copy.
-use Rattle.std.proofs.Common.{◌≡◌, ◌⊎◌, inl, inr, ℕ, Vec, zero, suc, ◌+◌, ◌<◌, ◌&&◌, ◌||◌, ◌==◌, Bool, true, false, List, [], ◌∷◌, ◌++◌, ◌≤◌, Result, Ok, Err, length, take, slice_index_or, arith, refl, ap, sym, subst, ◌∙◌}
+use Rattle.std.proofs.Common.{◌≡◌, ◌⊎◌, inl, inr, ℕ, Vec, zero, suc, ◌+◌, ◌<◌, ◌==◌, Bool, true, false, List, [], ◌∷◌, ◌++◌, ◌≤◌, Result, Ok, Err, length, take, slice_index_or, arith, refl, ap, sym, subst, ◌∙◌}
 use Rattle.std.specs.List.{list_all, list_any, AllByRecursion, FoldsTo}
 use Rattle.std.specs.FinSet as set
 use Rattle.std.proofs.lemmas.Bool.{true≢false, false≢true, and_parts, and_cases, and_from, or_cases, or_left, or_right, le-leb, lt-ltb, ne_eqb}

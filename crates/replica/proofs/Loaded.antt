@@ -1,5 +1,5 @@
 -- A store into which a first copy is loaded, and its files.
-use Rattle.std.proofs.Common.{◌≡◌, ℕ, Bool, true, false, [], inl, None, Result, Ok, Err, IfOk, IfErr, IsTrue, refl, sym, ap, subst, ◌∙◌, arith}
+use Rattle.std.proofs.Common.{◌≡◌, ℕ, Bool, false, [], inl, None, Result, Err, IfOk, IfErr, refl, sym, ap, subst, ◌∙◌}
 use Rattle.std.specs.FinSet as set
 use Rattle.sqlite_disk.specs.declared.Disk.{Ghosts}
 use Rattle.sqlite_disk.specs.declared.Files.{Files}
@@ -8,16 +8,15 @@ use Rattle.sqlite_trees.specs.declared.store.Store.{Ghosts as StoreGhosts}
 use Rattle.sqlite_trees.specs.Tree.{Trees}
 use Rattle.sqlite_trees.specs.View.{IsClean}
 use Rattle.sqlite_store.specs.declared.store.FileStore.{FileStore}
-use Rattle.sqlite_store.specs.FileStore.{view, recovers}
+use Rattle.sqlite_store.specs.FileStore.{view}
 use Rattle.sqlite.specs.declared.error.Error.{Error}
 use Rattle.sqlite.specs.State.{HasCleanDisk}
 use Rattle.sqlite.specs.Held.{state}
-use Rattle.sqlite.specs.Files.{over_files, file_state, IsClosed, FailsToClose}
+use Rattle.sqlite.specs.Files.{over_files, IsClosed, FailsToClose}
 use Rattle.sqlite.specs.Closing.{IsCopied}
 use Rattle.gtid.specs.Identifier.{Id, Ids}
 use Rattle.binlog.specs.Filter.{Names}
 use Rattle.store.specs.State.{Content}
-use Rattle.store.specs.Apply.{IsAtRest}
 use Rattle.store.specs.Faults.{IsFailure}
 use Rattle.store.specs.declared.fault.StoreFault.{StoreFault}
 use Rattle.store.specs.declared.fault.StoreFault.TheVariants as fault
@@ -26,13 +25,10 @@ use Rattle.store.specs.declared.listing.ListError.TheVariants.{Store as StoreErr
 use Rattle.store.specs.declared.store.Store.{Store}
 use Rattle.store.specs.Listing.{HoldsListed}
 use Rattle.store.specs.Store.{Holds, Keeps, AreOf, database}
-use Rattle.store.specs.Entering.{IsLeft}
-use Rattle.store.proofs.Reopened.{left_by}
 use Rattle.replica.specs.declared.loading.LoadEnd.{LoadEnd}
 use Rattle.replica.specs.declared.loading.LoadEnd.TheVariants.{Changed, Refused}
 use Rattle.replica.specs.declared.loading.Unloadable.{Unloadable}
 use Rattle.replica.specs.Given.{Supply}
-use Rattle.replica.specs.File.{KeepsContent, IsCleanlyClosed}
 use Rattle.replica.specs.Copies.{IsUnloadable, MayNotLoad, with_first}
 use Rattle.replica.specs.declared.changing.ChangeEnd.TheVariants.{NotAdopted}
 use Rattle.replica.specs.Noted.{Account, IsLedTo}

@@ -1,5 +1,5 @@
 -- Transactions that are given one at a time and applied in order.
-use Rattle.std.proofs.Common.{◌≡◌, ◌⊎◌, ◌++◌, ◌∷◌, [], ℕ, ◌+◌, ◌≤◌, ◌^◌, ◌-◌, arith, Bool, true, false, List, map, length, Option, Some, None, Result, Ok, Err, IfNone, IsTrue, inl, inr, refl, sym, ap, subst, ◌∙◌, append_assoc, append-nil}
+use Rattle.std.proofs.Common.{◌≡◌, ◌++◌, ◌∷◌, [], ℕ, ◌+◌, ◌≤◌, ◌^◌, ◌-◌, arith, Bool, true, false, List, map, Option, Some, None, Err, IfNone, IsTrue, inl, inr, refl, sym, ap, subst, ◌∙◌, append_assoc, append-nil}
 use Rattle.std.specs.Prelude.{if◌then◌else◌}
 use Rattle.std.specs.Int.{from_bool}
 use Rattle.std.specs.Option.{option_to_list}
@@ -26,7 +26,6 @@ use Rattle.gather.specs.View.{delivery_value}
 use Rattle.gather.specs.declared.transaction.Delivery.{Delivery}
 use Rattle.replica.specs.Given.{Supply, listed, BeginWith, GivesFirst, GivesOne}
 use Rattle.replica.specs.Over.{LeavesOnly}
-use Rattle.replica.specs.Change.{IsLeftOfChange}
 use Rattle.replica.specs.Alone.{IsAppliedOrKnown, IsNotApplied}
 use Rattle.replica.specs.Changing.{TakesNext, HasTakenSome, HasChanged}
 use Rattle.replica.proofs.Push.{applies_push}

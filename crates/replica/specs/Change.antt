@@ -1,5 +1,5 @@
 -- What transactions that no connection carries make of what a replica holds.
-use Rattle.std.specs.Prelude.{◌≡◌, ◌⊎◌, ℕ, ◌^◌, ◌-◌, Bool, true, false, List, [], ◌++◌, length, Option, None, IsSomeAnd}
+use Rattle.std.specs.Prelude.{◌≡◌, ◌⊎◌, ℕ, ◌^◌, ◌-◌, true, false, List, [], ◌++◌, length, Option, None, IsSomeAnd}
 use Rattle.std.specs.Option.{option_to_list}
 use Rattle.gtid.specs.Identifier.{Ids}
 use Rattle.binlog.specs.Filter.{Names}

@@ -1,7 +1,7 @@
 -- What a first copy of tables asks of the database that it is loaded into. A copy is a source of its own, whose UUID is one of
 -- version 5, made from the text of the copy; the UUIDs of servers are of other versions. RFC 9562, 4.2 "Version Field" and 5.5 "UUID
 -- Version 5"; MySQL Reference Manual, "Replication and Binary Logging Options and Variables" (server_uuid).
-use Rattle.std.specs.Prelude.{◌≡◌, ◌≢◌, ◌⊎◌, ℕ, ◌/◌, ◌==◌, ◌≤◌, Bool, true, false, List, slice_index}
+use Rattle.std.specs.Prelude.{◌≡◌, ◌⊎◌, ℕ, ◌/◌, ◌==◌, ◌≤◌, Bool, true, false, List, slice_index}
 use Rattle.std.specs.FinSet as set
 use Rattle.gtid.specs.Identifier.{Id, Ids}
 use Rattle.binlog.specs.Cell.{CellValue}

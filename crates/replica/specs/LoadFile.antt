@@ -1,5 +1,5 @@
 -- A database file that a first copy of tables was loaded into.
-use Rattle.std.specs.Prelude.{ℕ, [], Result, MatchResult}
+use Rattle.std.specs.Prelude.{ℕ, Result}
 use Rattle.sqlite_disk.specs.declared.Disk.{Ghosts}
 use Rattle.sqlite_disk.specs.declared.Files.{Files}
 use Rattle.sqlite_store.specs.declared.store.FileStore.{FileStore}

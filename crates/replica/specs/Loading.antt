@@ -8,7 +8,6 @@ use Rattle.store.specs.State.{Content}
 use Rattle.store.specs.Listing.{Entry}
 use Rattle.store.specs.declared.store.Store.{Store}
 use Rattle.store.specs.Store.{Holds, Keeps}
-use Rattle.replica.specs.declared.changing.ChangeEnd.{ChangeEnd}
 use Rattle.replica.specs.declared.loading.Found.{Found}
 use Rattle.replica.specs.declared.loading.Found.TheVariants.{Row, Memory}
 use Rattle.replica.specs.declared.loading.LoadEnd.{LoadEnd}

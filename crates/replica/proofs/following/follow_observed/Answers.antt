@@ -14,7 +14,7 @@ use Rattle.replica.specs.Conn.{IsNoStreamFailure}
 use Rattle.replica.specs.Noted.{MayEnd}
 use Rattle.replica.specs.Standing.{end_of}
 use Rattle.replica.specs.Follow.{Follows, reads_failed, failed_reads_of, failed_writes_of}
-use Rattle.replica.proofs.Observed.{asked, not_of_stream, still}
+use Rattle.replica.proofs.Observed.{asked, not_of_stream}
 use Rattle.replica.proofs.Failed.{none_failed, failed_later, failed_none, counted_none}
 use Rattle.replica.proofs.Advance.{none_after}
 use Rattle.replica.proofs.Followed.{follows-memory, follows-until, follows-sends_no_more, follows-write_failed, follows-ended, follows-read_failed, following-begins, following-sent, following-read, follows-same, some_after, ended_early, over-out, length_kept}
