@@ -33,7 +33,7 @@ use Rattle.replica.specs.Given.{Supply}
 use Rattle.replica.specs.Changing.{HasChanged}
 use Rattle.replica.specs.ChangeFile.{ChangesFile}
 use Rattle.replica.proofs.Closed.{closed_with, may_hold}
-use Rattle.replica.proofs.Noted.{nothing_noted, waits_none}
+use Rattle.replica.proofs.Noted.{nothing_noted, no_notice}
 use Rattle.replica.proofs.Taking.{whole_leaves}
 
 -- where the set was adopted, the transactions begin with it
@@ -63,8 +63,8 @@ module _ {S : Type 0} (g : StoreGhosts S) where
 
   -- the set was not adopted, and nothing was reported
   pub led_unadopted : (before after : Store S g) (old : Content) (ids : Ids) (f : StoreFault) (account : Account) → Adopts g old ids before after (Err f) → IsLedTo g before after false old account account []
-  led_unadopted before after old ids (fault.Database e) account it = record { now_broken = true; new = old; holds = it; noted_of = nothing_noted before.following old account account refl (λ on. on) (waits_none account.waits) }
-  led_unadopted before after old ids fault.Memory account it = record { now_broken = true; new = old; holds = it.0; noted_of = nothing_noted before.following old account account refl (λ on. on) (waits_none account.waits) }
+  led_unadopted before after old ids (fault.Database e) account it = record { now_broken = true; new = old; holds = it; noted_of = nothing_noted before.following old account account no_notice }
+  led_unadopted before after old ids fault.Memory account it = record { now_broken = true; new = old; holds = it.0; noted_of = nothing_noted before.following old account account no_notice }
   led_unadopted before after old ids fault.Damaged account it = absurd it
   led_unadopted before after old ids (fault.Layout n) account it = absurd it
   led_unadopted before after old ids fault.Broken account it = absurd it

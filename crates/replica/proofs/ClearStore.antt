@@ -33,7 +33,7 @@ use Rattle.replica.specs.declared.end.Reason.TheVariants.{EndOfInput, SourceEof,
 use Rattle.replica.specs.declared.clearing.ClearEnd.{ClearEnd}
 use Rattle.replica.specs.declared.clearing.ClearEnd.TheVariants.{Repeat, NotFollowed, Failed}
 use Rattle.replica.specs.declared.clearing.TableRows.{TableRows}
-use Rattle.replica.specs.Noted.{Account, HasBeenNoted, StillWaits, WereMissed, opened, has_failure, IsLeftOfNoted, IsNotedSinceOpening, IsLedOver, IsLedSinceOpening}
+use Rattle.replica.specs.Noted.{Account, HasNotices, StillWaits, WereMissed, opened, has_failure, IsLeftOfNoted, IsNotedSinceOpening, IsLedOver, IsLedSinceOpening}
 use Rattle.replica.specs.Alone.{TakesAlone, IsOwnOrHalted}
 use Rattle.replica.specs.Clear.{IsCleared, is_in_table, IsToBeCleared, MayEndClear}
 use Rattle.replica.specs.Over.{HasStayed}
@@ -108,17 +108,16 @@ opened_missed was None executed waits = tt
 opened_missed None (Some is) executed waits = absurd waits
 opened_missed (Some was) (Some is) executed waits = tt
 
-abbrev pub opened_noted : (names : Names) (old : Content) (ids : Ids) (was is : Account) → ids ≡ old.executed → HasBeenNoted was.noted is.noted (opened ids ∷ []) → (was.has_stopped ≡ true → is.has_stopped ≡ true) → StillWaits was.waits (opened ids ∷ []) is.waits
-    → IsNotedSinceOpening names old old was is []
-opened_noted names old ids was is same notes stays waits = record {
+abbrev pub opened_noted : (names : Names) (old : Content) (ids : Ids) (was is : Account) → ids ≡ old.executed → HasNotices was is (opened ids ∷ []) → IsNotedSinceOpening names old old was is []
+opened_noted names old ids was is same noticed = record {
   noted_of = record {
     notices = opened ids ∷ [];
-    noted = notes;
-    waits = waits;
-    missed = opened_missed was.waits is.waits ids waits;
+    noted = noticed.noted;
+    waits = noticed.waits;
+    missed = opened_missed was.waits is.waits ids noticed.waits;
     leads = (same, refl);
     ends_are = refl;
-    stays = stays;
+    stays = noticed.stays;
     stops = λ bad. absurd (false≢true bad);
     last = λ bad. absurd (false≢true bad);
     lets_none = λ on. tt;

@@ -8,10 +8,10 @@ use Rattle.store.specs.State.{Content}
 use Rattle.store.specs.declared.store.Store.{Store}
 use Rattle.store.specs.Store.{HoldsAs, IsBroken, database}
 use Rattle.replica.specs.declared.end.Ended.{Ended}
-use Rattle.replica.specs.Noted.{Account, HasBeenNoted, StillWaits, WasMissing, IsLedSinceOpening, opened, ended}
+use Rattle.replica.specs.Noted.{Account, HasNotices, HasNoNotice, WasMissing, IsLedSinceOpening, opened, ended}
 use Rattle.replica.specs.Keeps.{KeepsStore, KeepsObserved, KeepsSinceOpening}
 use Rattle.replica.proofs.Observed.{still}
-use Rattle.replica.proofs.Noted.{led_nowhere, led_through, led_to_end, since_from, since_through, waits_none}
+use Rattle.replica.proofs.Noted.{led_nowhere, led_through, led_to_end, since_from, since_through, no_notice}
 use Rattle.replica.proofs.Missing.{missing_later}
 
 module _ {S : Type 0} (g : Ghosts S) where
@@ -28,26 +28,25 @@ module _ {S : Type 0} (g : Ghosts S) where
   -- ---- of a call that reports to an observer
 
   -- where the store stays as it is, and nothing is reported of a transaction
-  pub keeps_told : {store : Store S g} {was is : Account} → is.noted ≡ was.noted → (was.has_stopped ≡ true → is.has_stopped ≡ true) → StillWaits was.waits [] is.waits → KeepsObserved g store store was is []
-  keeps_told {store} {was} {is} noted stays waits = record {
+  pub keeps_noticed : {store : Store S g} {was is : Account} → HasNoNotice was is → KeepsObserved g store store was is []
+  keeps_noticed {store} {was} {is} noticed = record {
     store = store_same;
-    stays = stays;
+    stays = noticed.stays;
     heeds = λ broken content holds on. refl;
-    notes = λ clean broken content holds. led_nowhere g broken content store was is holds noted stays waits;
+    notes = λ clean broken content holds. led_nowhere g broken content store was is holds noticed;
   }
 
   -- where nothing is done
   pub keeps_same : {store : Store S g} {is : Account} → KeepsObserved g store store is is []
-  keeps_same {store} {is} = keeps_told refl (λ on. on) (waits_none is.waits)
+  keeps_same {store} {is} = keeps_noticed no_notice
 
   -- where the end of a connection is reported
-  pub keeps_ended : {store : Store S g} {was is : Account} {end : Ended} {goes_on : Bool} → HasBeenNoted was.noted is.noted (ended end goes_on ∷ []) → goes_on ≡ not is.has_stopped → (was.has_stopped ≡ true → is.has_stopped ≡ true) → StillWaits was.waits [] is.waits
-      → KeepsObserved g store store was is (end ∷ [])
-  keeps_ended {store} {was} {is} {end} {goes_on} noted asks stays waits = record {
+  pub keeps_ended : {store : Store S g} {was is : Account} {end : Ended} {goes_on : Bool} → HasNotices was is (ended end goes_on ∷ []) → goes_on ≡ not is.has_stopped → KeepsObserved g store store was is (end ∷ [])
+  keeps_ended {store} {was} {is} {end} {goes_on} noticed asks = record {
     store = store_same;
-    stays = stays;
+    stays = noticed.stays;
     heeds = λ broken content holds on. refl;
-    notes = λ clean broken content holds. led_to_end g broken content store end goes_on was is holds noted asks stays waits;
+    notes = λ clean broken content holds. led_to_end g broken content store end goes_on was is holds noticed asks;
   }
 
   pub keeps_then : {first middle last : Store S g} {t0 t1 t2 : Account} {ends : List Ended} → KeepsObserved g first middle t0 t1 [] → KeepsObserved g middle last t1 t2 ends → KeepsObserved g first last t0 t2 ends
@@ -65,13 +64,12 @@ module _ {S : Type 0} (g : Ghosts S) where
   abbrev pub MissesSince : Store S g → Store S g → Account → Account → Type 0
   MissesSince first last was is = HasCleanDisk (database g last) → (broken : Bool) (content : Content) → HoldsAs g broken content first → WasMissing was.waits is.waits content.executed
 
-  pub since_opened : {store : Store S g} {was is : Account} {ids : Ids} → ((broken : Bool) (content : Content) → HoldsAs g broken content store → ids ≡ content.executed) → HasBeenNoted was.noted is.noted (opened ids ∷ [])
-      → (was.has_stopped ≡ true → is.has_stopped ≡ true) → StillWaits was.waits (opened ids ∷ []) is.waits → KeepsSinceOpening g store store was is []
-  since_opened {store} {was} {is} {ids} same noted stays waits = record {
+  pub since_opened : {store : Store S g} {was is : Account} {ids : Ids} → ((broken : Bool) (content : Content) → HoldsAs g broken content store → ids ≡ content.executed) → HasNotices was is (opened ids ∷ []) → KeepsSinceOpening g store store was is []
+  since_opened {store} {was} {is} {ids} same noticed = record {
     store = store_same;
-    stays = stays;
+    stays = noticed.stays;
     heeds = λ broken content holds on. refl;
-    notes = λ clean broken content holds. since_from g broken content store ids was is holds (same broken content holds) noted stays waits;
+    notes = λ clean broken content holds. since_from g broken content store ids was is holds (same broken content holds) noticed;
   }
 
   pub misses_then : {first middle last : Store S g} {t0 t1 t2 : Account} {ends more : List Ended} → KeepsSinceOpening g first middle t0 t1 ends → KeepsObserved g middle last t1 t2 more → MissesSince first middle t0 t1 → MissesSince first last t0 t2

@@ -40,7 +40,7 @@ use Rattle.replica.specs.LoadFile.{LoadsTo, IsNotedOfLoad}
 use Rattle.replica.proofs.Closed.{clean_before_closing}
 use Rattle.replica.proofs.ClearFiles.{keeps_stayed}
 use Rattle.replica.proofs.Changed.{changed_into, noted_from}
-use Rattle.replica.proofs.Noted.{nothing_noted, waits_none}
+use Rattle.replica.proofs.Noted.{nothing_noted, no_notice}
 
 module _ {S : Type 0} (g : StoreGhosts S) where
   pub keeps_of : (store : Store S g) (content : Content) → Holds g store content → Keeps g store content
@@ -94,7 +94,7 @@ module _ {S : Type 0} (g : StoreGhosts S) where
   }
 
   pub led_unloaded : (before after : Store S g) (old : Content) (account : Account) → Holds g after old → IsLedTo g before after false old account account []
-  led_unloaded before after old account holds = record { now_broken = false; new = old; holds = holds; noted_of = nothing_noted before.following old account account refl (λ on. on) (waits_none account.waits) }
+  led_unloaded before after old account holds = record { now_broken = false; new = old; holds = holds; noted_of = nothing_noted before.following old account account no_notice }
 
 module _ {D : Type 0} (g : Ghosts D) (names : Names) (old : Content) (opened after : Store (FileStore D g) over_files) where
   pub loaded_into : {E : Type 0} (only : Names) (left : Supply) (ids : Ids) (first : Id) (tables : Names) (applied : ℕ) (end : LoadEnd E) (closed : Result (Files D) (Error × FileStore D g))

@@ -24,7 +24,7 @@ use Rattle.replica.specs.Conn.{AppliesAll}
 use Rattle.replica.specs.PayloadStep.{outcome_of}
 use Rattle.replica.proofs.Transactions.{all_one}
 use Rattle.replica.proofs.MissingSets.{none_left, none_removed}
-use Rattle.replica.specs.Noted.{Notice, opened, before, stopped, after, ended, HasBeenNoted, asked_about, ends_in, has_stop, has_last, LetsNone, applied_in, IsMadeBy, LeadsBy, Account, IsNotedOf, IsLedTo, IsLedOver, missing_after, StillWaits, AreMissed, WereMissed, WasMissing, BeginsWith, IsNotedSinceOpening, IsLedSinceOpening, fails_by, has_failure, EndsAtFailure, NextFails, IsOneMoreNoted, IsLeftOfNoted}
+use Rattle.replica.specs.Noted.{Notice, opened, before, stopped, after, ended, HasBeenNoted, asked_about, ends_in, has_stop, has_last, LetsNone, applied_in, IsMadeBy, LeadsBy, Account, HasNotices, HasNoNotice, IsNotedOf, IsLedTo, IsLedOver, missing_after, StillWaits, AreMissed, WereMissed, WasMissing, BeginsWith, IsNotedSinceOpening, IsLedSinceOpening, fails_by, has_failure, EndsAtFailure, NextFails, IsOneMoreNoted, IsLeftOfNoted}
 use Rattle.replica.specs.Over.{LeavesOnly}
 use Rattle.replica.specs.Alone.{TakesAlone}
 use Rattle.replica.specs.Missing.{waits_for_none}
@@ -76,12 +76,6 @@ waits_more first None (Some l) xs ys a b = absurd b
 waits_more None (Some m) (Some l) xs ys a b = absurd a
 waits_more (Some f) (Some m) (Some l) xs ys a b = b ∙ ap (λ (ids : Ids). missing_after ids ys) a ∙ sym (missing_more f xs ys)
 
--- what is reported of no transaction that was applied changes nothing
-waits_same : (was is : Option Ids) (n : Notice) → ((ids : Ids) → missing_after ids (n ∷ []) ≡ ids) → StillWaits was [] is → StillWaits was (n ∷ []) is
-waits_same was None n same a = a
-waits_same None (Some is) n same a = absurd a
-waits_same (Some was) (Some is) n same a = a ∙ sym (same was)
-
 pub missed_none : (was is : Option Ids) → StillWaits was [] is → WereMissed was [] is
 missed_none was None a = tt
 missed_none None (Some is) a = absurd a
@@ -115,7 +109,7 @@ after_missed ids d (Ok false) = tt
 after_missed ids d (Err reason) = tt
 
 -- and of one that is
-missed_before : (was is : Option Ids) (d : DeliveryValue) → StillWaits was [] is → waits_for_none is ≡ false → WereMissed was (before d ∷ []) is
+missed_before : (was is : Option Ids) (d : DeliveryValue) → StillWaits was (before d ∷ []) is → waits_for_none is ≡ false → WereMissed was (before d ∷ []) is
 missed_before was None d a some = tt
 missed_before None (Some is) d a some = absurd a
 missed_before (Some was) (Some is) d a some = (subst (λ (ids : Ids). set.is_subset ids set.empty ≡ false) a some, tt)
@@ -291,22 +285,26 @@ unapplied names old notices new l none =
 pub one_led : (names : Names) (old : Content) (notices : List Notice) (a b : Content) → LeadsBy names old notices a → LeadsBy names old notices b → a ≡ b
 one_led names old notices a b l m = (all_one names old (applied_in notices) (length (applied_in notices)) (length (applied_in notices)) a b (all_applied names old notices a l) (all_applied names old notices b m)).content
 
-pub asked_known : (now : Content) (d : DeliveryValue) (noted : Option (List Notice)) → is_executed now d ≡ true → HasBeenNoted noted noted (asked_about now d false)
-asked_known now d noted known = subst (λ (b : Bool). HasBeenNoted noted noted (if b then [] else before d ∷ [])) (sym known) (noted_none noted)
+pub no_notice : {is : Account} → HasNoNotice is is
+no_notice {is} = record { noted = refl; waits = waits_none is.waits; stays = λ on. on }
 
-pub asked_new : (now : Content) (d : DeliveryValue) (was is : Option (List Notice)) (goes_on : Bool) → is_executed now d ≡ false → HasBeenNoted was is ((if goes_on then before d else stopped d) ∷ []) → HasBeenNoted was is (asked_about now d (not goes_on))
-asked_new now d was is true fresh noted = subst (λ (b : Bool). HasBeenNoted was is (if b then [] else before d ∷ [])) (sym fresh) noted
-asked_new now d was is false fresh noted = subst (λ (b : Bool). HasBeenNoted was is (if b then [] else stopped d ∷ [])) (sym fresh) noted
+-- what is reported before a transaction that is executed, and before one that is new
+pub asked_known : (now : Content) (d : DeliveryValue) (is : Account) → is_executed now d ≡ true → HasNotices is is (asked_about now d false)
+asked_known now d is known = subst (λ (b : Bool). HasNotices is is (if b then [] else before d ∷ [])) (sym known) (record { noted = noted_none is.noted; waits = waits_none is.waits; stays = λ on. on })
 
-abbrev pub nothing_noted : (names : Names) (old : Content) (was is : Account) → is.noted ≡ was.noted → (was.has_stopped ≡ true → is.has_stopped ≡ true) → StillWaits was.waits [] is.waits → IsNotedOf names old old was is []
-nothing_noted names old was is same stays still = record {
+pub asked_new : (now : Content) (d : DeliveryValue) (was is : Account) (goes_on : Bool) → is_executed now d ≡ false → HasNotices was is ((if goes_on then before d else stopped d) ∷ []) → HasNotices was is (asked_about now d (not goes_on))
+asked_new now d was is true fresh noticed = subst (λ (b : Bool). HasNotices was is (if b then [] else before d ∷ [])) (sym fresh) noticed
+asked_new now d was is false fresh noticed = subst (λ (b : Bool). HasNotices was is (if b then [] else stopped d ∷ [])) (sym fresh) noticed
+
+abbrev pub nothing_noted : (names : Names) (old : Content) (was is : Account) → HasNoNotice was is → IsNotedOf names old old was is []
+nothing_noted names old was is noticed = record {
   notices = [];
-  noted = subst (λ (t : Option (List Notice)). HasBeenNoted was.noted t []) (sym same) (noted_none was.noted);
-  waits = still;
-  missed = missed_none was.waits is.waits still;
+  noted = subst (λ (t : Option (List Notice)). HasBeenNoted was.noted t []) (sym noticed.noted) (noted_none was.noted);
+  waits = noticed.waits;
+  missed = missed_none was.waits is.waits noticed.waits;
   leads = refl;
   ends_are = refl;
-  stays = stays;
+  stays = noticed.stays;
   stops = λ bad. absurd (false≢true bad);
   last = λ bad. absurd (false≢true bad);
   lets_none = λ on. tt;
@@ -329,13 +327,9 @@ noted_on names old mid new t0 t1 t2 ends more going a b = record {
 
 -- what is reported before and after a transaction that the observer lets pass, unless it is executed
 pub record Asks (old : Content) (d : DeliveryValue) (t0 t1 t2 : Account) (answer : Result Bool Reason) : Type 0 where
-  pub asked : HasBeenNoted t0.noted t1.noted (asked_about old d false)
-  pub noted : HasBeenNoted t1.noted t2.noted (after d answer ∷ [])
+  pub asked : HasNotices t0 t1 (asked_about old d false)
+  pub noticed : HasNotices t1 t2 (after d answer ∷ [])
   pub goes_on : is_executed old d ≡ false → t1.has_stopped ≡ false
-  pub stays : t0.has_stopped ≡ true → t1.has_stopped ≡ true
-  pub stays_after : t1.has_stopped ≡ true → t2.has_stopped ≡ true
-  pub still : StillWaits t0.waits [] t1.waits
-  pub waits : StillWaits t1.waits (after d answer ∷ []) t2.waits
   pub missed : is_executed old d ≡ false → waits_for_none t1.waits ≡ false
 
 end_leads : (names : Names) (old : Content) (end : Ended) (goes_on : Bool) → LeadsBy names old (ended end goes_on ∷ []) old
@@ -391,9 +385,9 @@ module _ {S : Type 0} (g : Ghosts S) where
   }
 
   -- nothing is reported, and the store stays as it is
-  pub led_nowhere : (broken : Bool) (old : Content) (store : Store S g) (was is : Account) → HoldsAs g broken old store → is.noted ≡ was.noted → (was.has_stopped ≡ true → is.has_stopped ≡ true) → StillWaits was.waits [] is.waits → IsLedOver g store store broken old was is []
-  led_nowhere broken old store was is holds same stays still =
-      quiet broken old store was is [] (record { now_broken = broken; new = old; holds = holds; noted_of = nothing_noted store.following old was is same stays still }) refl refl refl tt
+  pub led_nowhere : (broken : Bool) (old : Content) (store : Store S g) (was is : Account) → HoldsAs g broken old store → HasNoNotice was is → IsLedOver g store store broken old was is []
+  led_nowhere broken old store was is holds noticed =
+      quiet broken old store was is [] (record { now_broken = broken; new = old; holds = holds; noted_of = nothing_noted store.following old was is noticed }) refl refl refl tt
 
   abbrev to_leads : (broken : Bool) (old : Content) (first last : Store S g) (was is : Account) (ends : List Ended) → IsLedOver g first last broken old was is ends → Leads g first.following first last broken old was is ends
   to_leads broken old first last was is ends a = record {
@@ -462,40 +456,14 @@ module _ {S : Type 0} (g : Ghosts S) where
       subst (λ n. Leads g n middle last a.led.now_broken a.led.new t1 t2 more) same (to_leads a.led.now_broken a.led.new middle last t1 t2 more (next a.led.now_broken a.led.new a.led.holds)) in
       of_leads broken old first last t0 t2 (ends ++ more) (leads_then first.following broken old first middle last t0 t1 t2 ends more going (to_leads broken old first middle t0 t1 ends a) b)
 
-  -- what is reported before makes no difference, if it is of no transaction
-  pub led_after : (broken : Bool) (old : Content) (first last : Store S g) (t0 t1 t2 : Account) (ends : List Ended) → t1.noted ≡ t0.noted → (t0.has_stopped ≡ true → t1.has_stopped ≡ true) → StillWaits t0.waits [] t1.waits → IsLedOver g first last broken old t1 t2 ends → IsLedOver g first last broken old t0 t2 ends
-  led_after broken old first last t0 t1 t2 ends early stays still a = record {
-    led = record {
-      now_broken = a.led.now_broken;
-      new = a.led.new;
-      holds = a.led.holds;
-      noted_of = record {
-        notices = a.led.noted_of.notices;
-        noted = subst (λ (t : Option (List Notice)). HasBeenNoted t t2.noted a.led.noted_of.notices) early a.led.noted_of.noted;
-        waits = waits_more t0.waits t1.waits t2.waits [] a.led.noted_of.notices still a.led.noted_of.waits;
-        missed = missed_more t0.waits t1.waits t2.waits [] a.led.noted_of.notices still a.led.noted_of.waits (missed_none t0.waits t1.waits still) a.led.noted_of.missed;
-        leads = a.led.noted_of.leads;
-        ends_are = a.led.noted_of.ends_are;
-        stays = λ on. a.led.noted_of.stays (stays on);
-        stops = a.led.noted_of.stops;
-        last = a.led.noted_of.last;
-        lets_none = λ on. a.led.noted_of.lets_none (stays on);
-      };
-    };
-    still = a.still;
-    breaks = a.breaks;
-    fails = a.fails;
-    leaves = a.leaves;
-  }
-
   -- the executed set of a store that was opened
-  pub since_from : (broken : Bool) (old : Content) (store : Store S g) (ids : Ids) (was is : Account) → HoldsAs g broken old store → ids ≡ old.executed → HasBeenNoted was.noted is.noted (opened ids ∷ []) → (was.has_stopped ≡ true → is.has_stopped ≡ true) → StillWaits was.waits (opened ids ∷ []) is.waits → IsLedSinceOpening g store store broken old was is []
-  since_from broken old store ids was is holds same notes stays waits = record {
+  pub since_from : (broken : Bool) (old : Content) (store : Store S g) (ids : Ids) (was is : Account) → HoldsAs g broken old store → ids ≡ old.executed → HasNotices was is (opened ids ∷ []) → IsLedSinceOpening g store store broken old was is []
+  since_from broken old store ids was is holds same noticed = record {
     now_broken = broken;
     new = old;
     holds = holds;
     noted_of = record {
-      noted_of = record { notices = opened ids ∷ []; noted = notes; waits = waits; missed = missed_same was.waits is.waits (opened ids) (λ all. tt) waits; leads = (same, refl); ends_are = refl; stays = stays; stops = λ bad. absurd (false≢true bad); last = λ bad. absurd (false≢true bad); lets_none = λ on. tt };
+      noted_of = record { notices = opened ids ∷ []; noted = noticed.noted; waits = noticed.waits; missed = missed_same was.waits is.waits (opened ids) (λ all. tt) noticed.waits; leads = (same, refl); ends_are = refl; stays = noticed.stays; stops = λ bad. absurd (false≢true bad); last = λ bad. absurd (false≢true bad); lets_none = λ on. tt };
       begins = same;
       missed = λ some. absurd (some refl);
       fails = tt;
@@ -505,12 +473,12 @@ module _ {S : Type 0} (g : Ghosts S) where
   }
 
   -- the same as what leads from one content to another
-  pub led_from : (broken : Bool) (old : Content) (store : Store S g) (ids : Ids) (was is : Account) → HoldsAs g broken old store → ids ≡ old.executed → HasBeenNoted was.noted is.noted (opened ids ∷ []) → (was.has_stopped ≡ true → is.has_stopped ≡ true) → StillWaits was.waits (opened ids ∷ []) is.waits → IsLedOver g store store broken old was is []
-  led_from broken old store ids was is holds same notes stays waits = quiet broken old store was is [] (record {
+  pub led_from : (broken : Bool) (old : Content) (store : Store S g) (ids : Ids) (was is : Account) → HoldsAs g broken old store → ids ≡ old.executed → HasNotices was is (opened ids ∷ []) → IsLedOver g store store broken old was is []
+  led_from broken old store ids was is holds same noticed = quiet broken old store was is [] (record {
     now_broken = broken;
     new = old;
     holds = holds;
-    noted_of = record { notices = opened ids ∷ []; noted = notes; waits = waits; missed = missed_same was.waits is.waits (opened ids) (λ all. tt) waits; leads = (same, refl); ends_are = refl; stays = stays; stops = λ bad. absurd (false≢true bad); last = λ bad. absurd (false≢true bad); lets_none = λ on. tt };
+    noted_of = record { notices = opened ids ∷ []; noted = noticed.noted; waits = noticed.waits; missed = missed_same was.waits is.waits (opened ids) (λ all. tt) noticed.waits; leads = (same, refl); ends_are = refl; stays = noticed.stays; stops = λ bad. absurd (false≢true bad); last = λ bad. absurd (false≢true bad); lets_none = λ on. tt };
   }) refl refl refl tt
 
   -- and what comes after that
@@ -532,20 +500,20 @@ module _ {S : Type 0} (g : Ghosts S) where
       }
 
   -- the end of a connection
-  pub led_to_end : (broken : Bool) (old : Content) (store : Store S g) (end : Ended) (goes_on : Bool) (was is : Account) → HoldsAs g broken old store → HasBeenNoted was.noted is.noted (ended end goes_on ∷ []) → goes_on ≡ not is.has_stopped → (was.has_stopped ≡ true → is.has_stopped ≡ true) → StillWaits was.waits [] is.waits
+  pub led_to_end : (broken : Bool) (old : Content) (store : Store S g) (end : Ended) (goes_on : Bool) (was is : Account) → HoldsAs g broken old store → HasNotices was is (ended end goes_on ∷ []) → goes_on ≡ not is.has_stopped
       → IsLedOver g store store broken old was is (end ∷ [])
-  led_to_end broken old store end goes_on was is holds notes asks stays still = quiet broken old store was is (end ∷ []) (record {
+  led_to_end broken old store end goes_on was is holds noticed asks = quiet broken old store was is (end ∷ []) (record {
     now_broken = broken;
     new = old;
     holds = holds;
     noted_of = record {
       notices = ended end goes_on ∷ [];
-      noted = notes;
-      waits = waits_same was.waits is.waits (ended end goes_on) (λ ids. refl) still;
-      missed = missed_same was.waits is.waits (ended end goes_on) (λ ids. tt) (waits_same was.waits is.waits (ended end goes_on) (λ ids. refl) still);
+      noted = noticed.noted;
+      waits = noticed.waits;
+      missed = missed_same was.waits is.waits (ended end goes_on) (λ ids. tt) noticed.waits;
       leads = end_leads store.following old end goes_on;
       ends_are = refl;
-      stays = stays;
+      stays = noticed.stays;
       stops = λ bad. absurd (false≢true bad);
       last = end_stops end goes_on is.has_stopped asks;
       lets_none = λ on. tt;
@@ -553,82 +521,88 @@ module _ {S : Type 0} (g : Ghosts S) where
   }) refl refl refl tt
 
   -- a new transaction, before which the observer stops
-  pub led_to_stop : (broken : Bool) (old : Content) (store : Store S g) (d : DeliveryValue) (was is : Account) → HoldsAs g broken old store → is_executed old d ≡ false → HasBeenNoted was.noted is.noted (asked_about old d true) → is.has_stopped ≡ true → StillWaits was.waits [] is.waits
+  pub led_to_stop : (broken : Bool) (old : Content) (store : Store S g) (d : DeliveryValue) (was is : Account) → HoldsAs g broken old store → is_executed old d ≡ false → HasNotices was is (asked_about old d true) → is.has_stopped ≡ true
       → IsLedOver g store store broken old was is []
-  led_to_stop broken old store d was is holds fresh asked on still = quiet broken old store was is [] (record {
-    now_broken = broken;
-    new = old;
-    holds = holds;
-    noted_of = record {
-      notices = stopped d ∷ [];
-      noted = subst (λ (b : Bool). HasBeenNoted was.noted is.noted (if b then [] else stopped d ∷ [])) fresh asked;
-      waits = waits_same was.waits is.waits (stopped d) (λ ids. refl) still;
-      missed = missed_same was.waits is.waits (stopped d) (λ ids. tt) (waits_same was.waits is.waits (stopped d) (λ ids. refl) still);
-      leads = (fresh, tt, refl);
-      ends_are = refl;
-      stays = λ was_on. on;
-      stops = λ stop. on;
-      last = λ bad. absurd (false≢true bad);
-      lets_none = λ was_on. tt;
-    };
-  }) refl refl refl tt
+  led_to_stop broken old store d was is holds fresh asked on =
+      let noticed : HasNotices was is (stopped d ∷ []) = subst (λ (b : Bool). HasNotices was is (if b then [] else stopped d ∷ [])) fresh asked in
+      quiet broken old store was is [] (record {
+        now_broken = broken;
+        new = old;
+        holds = holds;
+        noted_of = record {
+          notices = stopped d ∷ [];
+          noted = noticed.noted;
+          waits = noticed.waits;
+          missed = missed_same was.waits is.waits (stopped d) (λ ids. tt) noticed.waits;
+          leads = (fresh, tt, refl);
+          ends_are = refl;
+          stays = λ was_on. on;
+          stops = λ stop. on;
+          last = λ bad. absurd (false≢true bad);
+          lets_none = λ was_on. tt;
+        };
+      }) refl refl refl tt
 
   -- a new one that is answered
   answered : (broken is : Bool) (old new : Content) (first last : Store S g) (d : DeliveryValue) (t0 t1 t2 : Account) (answer : Result Bool Reason) → is_executed old d ≡ false
       → Asks old d t0 t1 t2 answer → IsMadeBy first.following old d answer new → HoldsAs g is new last
       → (broken ≡ true → (last ≡ first) × (is ≡ true) × (applied_in (before d ∷ after d answer ∷ []) ≡ [])) → (fails_by answer ≡ true → is ≡ true)
       → (broken ≡ false → is ≡ true → (schema : Schema) × LeavesOnly g schema last (IsLeftOfNoted first.following (before d ∷ after d answer ∷ []) new)) → IsLedOver g first last broken old t0 t2 []
-  answered broken is old new first last d t0 t1 t2 answer fresh a makes holds still breaks leaves = record {
-    led = record {
-      now_broken = is;
-      new = new;
-      holds = holds;
-      noted_of = record {
-        notices = before d ∷ after d answer ∷ [];
-        noted = noted_more t0.noted t1.noted t2.noted (before d ∷ []) (after d answer ∷ []) (subst (λ (b : Bool). HasBeenNoted t0.noted t1.noted (if b then [] else before d ∷ [])) fresh a.asked) a.noted;
-        waits = waits_more t0.waits t1.waits t2.waits (before d ∷ []) (after d answer ∷ []) (waits_same t0.waits t1.waits (before d) (λ ids. refl) a.still) a.waits;
-        missed = missed_more t0.waits t1.waits t2.waits (before d ∷ []) (after d answer ∷ []) (waits_same t0.waits t1.waits (before d) (λ ids. refl) a.still) a.waits
-            (missed_before t0.waits t1.waits d a.still (a.missed fresh)) (missed_same t1.waits t2.waits (after d answer) (λ ids. after_missed ids d answer) a.waits);
-        leads = (refl, new, makes, refl);
-        ends_are = refl;
-        stays = λ on. a.stays_after (a.stays on);
-        stops = λ bad. absurd (false≢true bad);
-        last = λ bad. absurd (false≢true bad);
-        lets_none = λ on. absurd (false≢true (sym (a.goes_on fresh) ∙ a.stays on));
-      };
-    };
-    still = still;
-    breaks = λ f. elim (or_cases (fails_by answer) false f) [ inl here ↦ breaks here | inr bad ↦ absurd (false≢true bad) ];
-    fails = (λ f. refl, tt);
-    leaves = leaves;
-  }
+  answered broken is old new first last d t0 t1 t2 answer fresh a makes holds still breaks leaves =
+      let asked : HasNotices t0 t1 (before d ∷ []) = subst (λ (b : Bool). HasNotices t0 t1 (if b then [] else before d ∷ [])) fresh a.asked in
+      record {
+        led = record {
+          now_broken = is;
+          new = new;
+          holds = holds;
+          noted_of = record {
+            notices = before d ∷ after d answer ∷ [];
+            noted = noted_more t0.noted t1.noted t2.noted (before d ∷ []) (after d answer ∷ []) asked.noted a.noticed.noted;
+            waits = waits_more t0.waits t1.waits t2.waits (before d ∷ []) (after d answer ∷ []) asked.waits a.noticed.waits;
+            missed = missed_more t0.waits t1.waits t2.waits (before d ∷ []) (after d answer ∷ []) asked.waits a.noticed.waits
+                (missed_before t0.waits t1.waits d asked.waits (a.missed fresh)) (missed_same t1.waits t2.waits (after d answer) (λ ids. after_missed ids d answer) a.noticed.waits);
+            leads = (refl, new, makes, refl);
+            ends_are = refl;
+            stays = λ on. a.noticed.stays (a.asked.stays on);
+            stops = λ bad. absurd (false≢true bad);
+            last = λ bad. absurd (false≢true bad);
+            lets_none = λ on. absurd (false≢true (sym (a.goes_on fresh) ∙ a.asked.stays on));
+          };
+        };
+        still = still;
+        breaks = λ f. elim (or_cases (fails_by answer) false f) [ inl here ↦ breaks here | inr bad ↦ absurd (false≢true bad) ];
+        fails = (λ f. refl, tt);
+        leaves = leaves;
+      }
 
   -- one that is executed
   repeated : (broken : Bool) (old : Content) (first last : Store S g) (d : DeliveryValue) (t0 t1 t2 : Account) (answer : Result Bool Reason) → is_executed old d ≡ true → LeadsBy first.following old (after d answer ∷ []) old
       → Asks old d t0 t1 t2 answer → HoldsAs g broken old last → last ≡ first → applied_in (after d answer ∷ []) ≡ [] → (fails_by answer ≡ true → broken ≡ true) → IsLedOver g first last broken old t0 t2 []
-  repeated broken old first last d t0 t1 t2 answer known leads a holds same none breaks = record {
-    led = record {
-      now_broken = broken;
-      new = old;
-      holds = holds;
-      noted_of = record {
-        notices = after d answer ∷ [];
-        noted = noted_more t0.noted t1.noted t2.noted [] (after d answer ∷ []) (subst (λ (b : Bool). HasBeenNoted t0.noted t1.noted (if b then [] else before d ∷ [])) known a.asked) a.noted;
-        waits = waits_more t0.waits t1.waits t2.waits [] (after d answer ∷ []) a.still a.waits;
-        missed = missed_more t0.waits t1.waits t2.waits [] (after d answer ∷ []) a.still a.waits (missed_none t0.waits t1.waits a.still) (missed_same t1.waits t2.waits (after d answer) (λ ids. after_missed ids d answer) a.waits);
-        leads = leads;
-        ends_are = refl;
-        stays = λ on. a.stays_after (a.stays on);
-        stops = λ bad. absurd (false≢true bad);
-        last = λ bad. absurd (false≢true bad);
-        lets_none = λ on. tt;
-      };
-    };
-    still = λ failed. (same, failed, none);
-    breaks = λ f. elim (or_cases (fails_by answer) false f) [ inl here ↦ breaks here | inr bad ↦ absurd (false≢true bad) ];
-    fails = (λ f. refl, tt);
-    leaves = λ fresh now. absurd (false≢true (sym fresh ∙ now));
-  }
+  repeated broken old first last d t0 t1 t2 answer known leads a holds same none breaks =
+      let asked : HasNotices t0 t1 [] = subst (λ (b : Bool). HasNotices t0 t1 (if b then [] else before d ∷ [])) known a.asked in
+      record {
+        led = record {
+          now_broken = broken;
+          new = old;
+          holds = holds;
+          noted_of = record {
+            notices = after d answer ∷ [];
+            noted = noted_more t0.noted t1.noted t2.noted [] (after d answer ∷ []) asked.noted a.noticed.noted;
+            waits = waits_more t0.waits t1.waits t2.waits [] (after d answer ∷ []) asked.waits a.noticed.waits;
+            missed = missed_more t0.waits t1.waits t2.waits [] (after d answer ∷ []) asked.waits a.noticed.waits (missed_none t0.waits t1.waits asked.waits) (missed_same t1.waits t2.waits (after d answer) (λ ids. after_missed ids d answer) a.noticed.waits);
+            leads = leads;
+            ends_are = refl;
+            stays = λ on. a.noticed.stays (a.asked.stays on);
+            stops = λ bad. absurd (false≢true bad);
+            last = λ bad. absurd (false≢true bad);
+            lets_none = λ on. tt;
+          };
+        };
+        still = λ failed. (same, failed, none);
+        breaks = λ f. elim (or_cases (fails_by answer) false f) [ inl here ↦ breaks here | inr bad ↦ absurd (false≢true bad) ];
+        fails = (λ f. refl, tt);
+        leaves = λ fresh now. absurd (false≢true (sym fresh ∙ now));
+      }
 
   -- a store that a failure has broken before
   pub led_broken : (old : Content) (first last : Store S g) (d : DeliveryValue) (t0 t1 t2 : Account) (r : Result Applied StoreFault) (out : Result Bool Reason) → HasFailed g first old

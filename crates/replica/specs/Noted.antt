@@ -175,6 +175,19 @@ pub record Account : Type 0 where
   -- which transactions it still waits for, if it says so
   pub waits : Option Ids
 
+-- What an observer says of a call that reports these notices to it: they were added to its account, it waits for what is missing after
+-- them, and it does not take back that it has stopped.
+pub record HasNotices (was is : Account) (notices : List Notice) : Type 0 where
+  pub noted : HasBeenNoted was.noted is.noted notices
+  pub waits : StillWaits was.waits notices is.waits
+  pub stays : was.has_stopped ≡ true → is.has_stopped ≡ true
+
+-- The same of a call that reports none: its account stays, and also whether it keeps one.
+pub record HasNoNotice (was is : Account) : Type 0 where
+  pub noted : is.noted ≡ was.noted
+  pub waits : StillWaits was.waits [] is.waits
+  pub stays : was.has_stopped ≡ true → is.has_stopped ≡ true
+
 -- A connection is halted only if the observer has stopped, and ended with `Until` only if it also waits for nothing more.
 abbrev pub IsAsked : Reason → Account → Type 0
 IsAsked Halted is = is.has_stopped ≡ true

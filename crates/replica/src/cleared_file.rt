@@ -29,7 +29,7 @@ pub struct ClearedFile<D: Disk> {
 /// adds a GTID to its executed set, in one commit, and closes it. Nothing is changed if the GTID is executed, or if the
 /// database was made for other tables than this one.
 ///
-/// The observer is always told of the executed set, and then of the transaction, with a delete for each copy of each row. All
+/// The observer is always noticed of the executed set, and then of the transaction, with a delete for each copy of each row. All
 /// of these are in memory at once.
 ///
 /// `start` stands for what the files held before (see [`open_file`]).

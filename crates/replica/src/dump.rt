@@ -17,7 +17,7 @@ ghost use Rattle.store.specs.Changes.{is_executed};
 ghost use Rattle.replica.specs.Conn.{IsOwn};
 ghost use Rattle.replica.specs.Alone.{TakesAlone, IsOwnOrHalted};
 ghost use Rattle.replica.specs.Event.{TakesEvent};
-ghost use Rattle.replica.specs.Noted.{HasBeenNoted, StillWaits, asked_about, MayEnd};
+ghost use Rattle.replica.specs.Noted.{HasNotices, HasNoNotice, asked_about, MayEnd};
 ghost use Rattle.replica.specs.Missing.{waits_for_none};
 ghost use Rattle.replica.specs.Keeps.{KeepsObserved};
 
@@ -68,10 +68,7 @@ fn gather<W: Observer>(
     ensures err { (es : List EventValue) (ds : List DeliveryValue) → Gathers es ds gatherer.old
         → IfErr result (EndsDump follow.now es payload.now) }
     ensures may_end { IfErr result IsOwn }
-    ensures noted { (W.account observer.new).noted ≡ (W.account observer.old).noted }
-    ensures waits { StillWaits (W.account observer.old).waits [] (W.account observer.new).waits }
-    ensures stays { (W.account observer.old).has_stopped ≡ true
-        → (W.account observer.new).has_stopped ≡ true }
+    ensures noticed { HasNoNotice (W.account observer.old) (W.account observer.new) }
 {
     let [0, body @ ..] = payload else {
         return Err(no_event(alloc, payload));
@@ -107,10 +104,9 @@ fn is_halted<S: Alter, W: Observer>(store: &Store<S>, delivery: &Delivery, obser
     ensures new { (is : Bool) (now : Content) → HoldsAs S.Store is now store.now → result ≡ true
         → is_executed now (delivery_value delivery.now) ≡ false }
     ensures asked { result ≡ true → (W.account observer.new).has_stopped ≡ true }
-    ensures noted { (is : Bool) (now : Content) → HoldsAs S.Store is now store.now
-        → HasBeenNoted (W.account observer.old).noted (W.account observer.new).noted
+    ensures noticed { (is : Bool) (now : Content) → HoldsAs S.Store is now store.now
+        → HasNotices (W.account observer.old) (W.account observer.new)
         (asked_about now (delivery_value delivery.now) result) }
-    ensures waits { StillWaits (W.account observer.old).waits [] (W.account observer.new).waits }
     ensures heeds { (is : Bool) (now : Content) → HoldsAs S.Store is now store.now
         → is_executed now (delivery_value delivery.now) ≡ false
         → result ≡ (W.account observer.new).has_stopped }

@@ -2,7 +2,7 @@
 
 ghost use Rattle.std.specs.Prelude.{◌≡◌, true, false, not, [], ◌∷◌, None, if◌then◌else◌};
 ghost use Rattle.gather.specs.View.{delivery_value};
-ghost use Rattle.replica.specs.Noted.{Account, HasBeenNoted, StillWaits, opened, before, stopped, after, ended};
+ghost use Rattle.replica.specs.Noted.{Account, HasNotices, HasNoNotice, opened, before, stopped, after, ended};
 ghost use Rattle.replica.specs.Missing.{waits_for_none};
 
 use crate::end::{Ended, Reason};
@@ -17,78 +17,50 @@ pub trait Observer {
 
     /// Called once with the executed set of a database file, before anything is read.
     fn opened(&mut self, executed: &GtidSet)
-        ensures noted { HasBeenNoted (account self.old).noted (account self.new).noted
-            (opened executed.now ∷ []) }
-        ensures waits { StillWaits (account self.old).waits (opened executed.now ∷ [])
-            (account self.new).waits }
-        ensures stays { (account self.old).has_stopped ≡ true
-            → (account self.new).has_stopped ≡ true };
+        ensures noticed { HasNotices (account self.old) (account self.new) (opened executed.now ∷ []) };
 
     /// Called when the source has been reached.
     fn connected(&mut self)
-        ensures noted { (account self.new).noted ≡ (account self.old).noted }
-        ensures waits { StillWaits (account self.old).waits [] (account self.new).waits }
-        ensures stays { (account self.old).has_stopped ≡ true
-            → (account self.new).has_stopped ≡ true }
+        ensures noticed { HasNoNotice (account self.old) (account self.new) }
     {}
 
     /// Called after this many bytes of a connection have been read, before they are used.
     fn received(&mut self, _count: usize)
-        ensures noted { (account self.new).noted ≡ (account self.old).noted }
-        ensures waits { StillWaits (account self.old).waits [] (account self.new).waits }
-        ensures stays { (account self.old).has_stopped ≡ true
-            → (account self.new).has_stopped ≡ true }
+        ensures noticed { HasNoNotice (account self.old) (account self.new) }
     {}
 
     /// Called with each event of a connection, before it is used; with its bytes, header and body, and with how many changes
     /// of the open transaction came before it.
     fn event(&mut self, _event: &Event<'_>, _bytes: &[u8], _pending: usize)
-        ensures noted { (account self.new).noted ≡ (account self.old).noted }
-        ensures waits { StillWaits (account self.old).waits [] (account self.new).waits }
-        ensures stays { (account self.old).has_stopped ≡ true
-            → (account self.new).has_stopped ≡ true }
+        ensures noticed { HasNoNotice (account self.old) (account self.new) }
     {}
 
     /// Called with each whole transaction that is not in the executed set, before it is applied. Returns whether it is to
     /// be applied; otherwise the connection ends with `Reason::Halted`.
     fn before_apply(&mut self, delivery: &Delivery) -> bool
         ensures goes_on { result ≡ not (account self.new).has_stopped }
-        ensures noted { HasBeenNoted (account self.old).noted (account self.new).noted
+        ensures noticed { HasNotices (account self.old) (account self.new)
             ((if result then before (delivery_value delivery.now)
             else stopped (delivery_value delivery.now)) ∷ []) }
-        ensures waits { StillWaits (account self.old).waits [] (account self.new).waits }
-        ensures missed { result ≡ true → waits_for_none (account self.new).waits ≡ false }
-        ensures stays { (account self.old).has_stopped ≡ true
-            → (account self.new).has_stopped ≡ true };
+        ensures missed { result ≡ true → waits_for_none (account self.new).waits ≡ false };
 
     /// Called with each whole transaction after it: whether it was applied, which one of the executed set is not, or why
     /// the connection ends.
     fn after_apply(&mut self, delivery: &Delivery, outcome: &Result<bool, Reason>)
-        ensures noted { HasBeenNoted (account self.old).noted (account self.new).noted
-            (after (delivery_value delivery.now) outcome.now ∷ []) }
-        ensures waits { StillWaits (account self.old).waits
-            (after (delivery_value delivery.now) outcome.now ∷ []) (account self.new).waits }
-        ensures stays { (account self.old).has_stopped ≡ true
-            → (account self.new).has_stopped ≡ true };
+        ensures noticed { HasNotices (account self.old) (account self.new)
+            (after (delivery_value delivery.now) outcome.now ∷ []) };
 
     /// Called with a payload of the dump that ends the connection without ending a transaction: an event and the byte
     /// before it, or a message of the source.
     fn refused(&mut self, _payload: &[u8], _reason: &Reason)
-        ensures noted { (account self.new).noted ≡ (account self.old).noted }
-        ensures waits { StillWaits (account self.old).waits [] (account self.new).waits }
-        ensures stays { (account self.old).has_stopped ≡ true
-            → (account self.new).has_stopped ≡ true }
+        ensures noticed { HasNoNotice (account self.old) (account self.new) }
     {}
 
     /// Called with the end of each connection of a list, as soon as it has ended. Returns whether the next one is to be
     /// read.
     fn ended(&mut self, end: &Ended) -> bool
         ensures goes_on { result ≡ not (account self.new).has_stopped }
-        ensures noted { HasBeenNoted (account self.old).noted (account self.new).noted
-            (ended end.now result ∷ []) }
-        ensures waits { StillWaits (account self.old).waits [] (account self.new).waits }
-        ensures stays { (account self.old).has_stopped ≡ true
-            → (account self.new).has_stopped ≡ true };
+        ensures noticed { HasNotices (account self.old) (account self.new) (ended end.now result ∷ []) };
 
     /// Whether it waits for nothing more, so that nothing more is to be read: the connection ends with `Reason::Until`.
     /// Asked before anything is read, and after each transaction that was applied.

@@ -11,7 +11,7 @@ use Rattle.replica.specs.declared.end.Ended.{Ended}
 use Rattle.replica.specs.Over.{HasReadAll}
 use Rattle.replica.specs.Capture.{AreRead, AreReadUpTo}
 use Rattle.replica.proofs.Observed.{ends_later, more_ends, none_yet, one_at_most}
-use Rattle.replica.specs.Noted.{MayEnd}
+use Rattle.replica.specs.Noted.{MayEnd, ended}
 use Rattle.replica.proofs.Missing.{missing_first}
 use Rattle.replica.proofs.Captured.{no_captures, captures_more, breaks_off}
 use Rattle.replica.specs.Keeps.{KeepsSinceOpening}
@@ -27,9 +27,9 @@ loop-capture-init g c = record {
   room = search rules;
   keeps =
       subst (λ (l : List Ended). KeepsSinceOpening g.S.Store c.args.store.now c.args.store.now (g.W.Observer.account c.args.observer.now) (g.W.Observer.account c.opened.new.self) l) (sym c.requires.none)
-      (since_opened g.S.Store c.executed.ensures.value c.opened.ensures.noted c.opened.ensures.stays c.opened.ensures.waits);
+      (since_opened g.S.Store c.executed.ensures.value c.opened.ensures.noticed);
   missed = λ clean was old holds.
-      missing_first (g.W.Observer.account c.args.observer.now).waits (g.W.Observer.account c.opened.new.self).waits c.executed.result.now old.executed (c.executed.ensures.value was old holds) c.opened.ensures.waits (sym c.is_done.ensures.done ∙ c.if-is_done.false);
+      missing_first (g.W.Observer.account c.args.observer.now).waits (g.W.Observer.account c.opened.new.self).waits c.executed.result.now old.executed (c.executed.ensures.value was old holds) c.opened.ensures.noticed.waits (sym c.is_done.ensures.done ∙ c.if-is_done.false);
   taken = λ h was old holds.
       subst (λ (l : List Ended). AreRead g.R.Read.remaining (HasReadAll g.S.Store c.args.config.now.limit c.args.store.now (state g.S.Store c.args.store.now.conn).now.schema was old) [] l) (search rules)
       (no_captures g.S.Store g.R.Read.remaining (λ h db is_open may. g.met.S.Store.settled h.store db is_open may) c.args.config.now.limit c.args.store.now was old holds);
@@ -74,17 +74,17 @@ loop-capture-preserved g c =
     ap (λ n. take n all) next ∙ take_more all (length c.loop-capture.yielded) c.in-Some.capture turn.0 ∙ ap (λ (p : Capture g.row.R.Denot). take (length c.loop-capture.yielded) all ++ p ∷ []) (sym turn.1) in
     record {
       piece = search rules;
-      may = more_ends c.loop-capture.ends.items c.in-Ok.end (g.W.Observer.account c.loop-capture.observer) (g.W.Observer.account c.read_capture.new.observer) (g.W.Observer.account c.ended-goes_on.new.self) [] c.push_reserved.new.self.items
-          inv.heeds c.ended-goes_on.ensures.stays c.ended-goes_on.ensures.waits c.push_reserved.ensures.items inv.may c.in-Ok.ensures.may_end;
+      may = more_ends c.loop-capture.ends.items c.in-Ok.end (g.W.Observer.account c.loop-capture.observer) (g.W.Observer.account c.read_capture.new.observer) (g.W.Observer.account c.ended-goes_on.new.self) (ended c.in-Ok.end c.ended-goes_on.result ∷ []) c.push_reserved.new.self.items
+          inv.heeds c.ended-goes_on.ensures.noticed.stays c.ended-goes_on.ensures.noticed.waits c.push_reserved.ensures.items inv.may c.in-Ok.ensures.may_end;
       heeds = λ some. not-true _ (sym c.ended-goes_on.ensures.goes_on ∙ c.if-not-goes_on.false);
       count = ap length ends ∙ length_push c.loop-capture.ends.items c.in-Ok.end ∙ ap (λ n. n + 1) inv.count ∙ sym next;
       room = search rules;
       keeps = since_then g.S.Store inv.heeds c.push_reserved.ensures.items (λ some. inv.missed) inv.keeps
           (keeps_then g.S.Store c.read_capture.ensures.keeps
-          (keeps_ended g.S.Store c.ended-goes_on.ensures.noted c.ended-goes_on.ensures.goes_on c.ended-goes_on.ensures.stays c.ended-goes_on.ensures.waits));
+          (keeps_ended g.S.Store c.ended-goes_on.ensures.noticed c.ended-goes_on.ensures.goes_on));
       missed = misses_then g.S.Store inv.keeps
           (keeps_then g.S.Store c.read_capture.ensures.keeps
-          (keeps_ended g.S.Store c.ended-goes_on.ensures.noted c.ended-goes_on.ensures.goes_on c.ended-goes_on.ensures.stays c.ended-goes_on.ensures.waits)) inv.missed;
+          (keeps_ended g.S.Store c.ended-goes_on.ensures.noticed c.ended-goes_on.ensures.goes_on)) inv.missed;
       taken = λ clean was old holds.
           let t = inv.taken (c.read_capture.ensures.keeps.store.clean clean) was old holds in
           subst₂ (λ (l : List (Capture g.row.R.Denot)) (es : List Ended). AreRead g.R.Read.remaining (HasReadAll g.S.Store c.args.config.now.limit c.read_capture.new.store (state g.S.Store c.args.store.now.conn).now.schema was old) l es) (sym more) (sym ends)
@@ -105,8 +105,8 @@ returns-in-Err-clause-may_end g c = ends_later c.loop-capture.ends.items (g.W.Ob
 
 pub returns-then-not-goes_on-clause-may_end : goal.returns-then-not-goes_on-clause-may_end
 returns-then-not-goes_on-clause-may_end g c =
-    more_ends c.loop-capture.ends.items c.in-Ok.end (g.W.Observer.account c.loop-capture.observer) (g.W.Observer.account c.read_capture.new.observer) (g.W.Observer.account c.ended-goes_on.new.self) [] c.push_reserved.new.self.items
-    c.loop-capture.invariant.heeds c.ended-goes_on.ensures.stays c.ended-goes_on.ensures.waits c.push_reserved.ensures.items c.loop-capture.invariant.may c.in-Ok.ensures.may_end
+    more_ends c.loop-capture.ends.items c.in-Ok.end (g.W.Observer.account c.loop-capture.observer) (g.W.Observer.account c.read_capture.new.observer) (g.W.Observer.account c.ended-goes_on.new.self) (ended c.in-Ok.end c.ended-goes_on.result ∷ []) c.push_reserved.new.self.items
+    c.loop-capture.invariant.heeds c.ended-goes_on.ensures.noticed.stays c.ended-goes_on.ensures.noticed.waits c.push_reserved.ensures.items c.loop-capture.invariant.may c.in-Ok.ensures.may_end
 
 pub returns-clause-may_end : goal.returns-clause-may_end
 returns-clause-may_end g c = c.loop-capture.invariant.may
@@ -136,12 +136,12 @@ pub returns-then-is_done-clause-asked : goal.returns-then-is_done-clause-asked
 returns-then-is_done-clause-asked g c is = c.is_done.ensures.stopped c.if-is_done.true
 
 pub returns-then-is_done-clause-no_more : goal.returns-then-is_done-clause-no_more
-returns-then-is_done-clause-no_more g c on = none_yet c.args.ends.now.items (g.W.Observer.account c.opened.new.self).has_stopped (λ some. absurd (some c.requires.none)) (c.opened.ensures.stays on)
+returns-then-is_done-clause-no_more g c on = none_yet c.args.ends.now.items (g.W.Observer.account c.opened.new.self).has_stopped (λ some. absurd (some c.requires.none)) (c.opened.ensures.noticed.stays on)
 
 pub returns-then-is_done-clause-keeps : goal.returns-then-is_done-clause-keeps
 returns-then-is_done-clause-keeps g c =
     subst (λ (l : List Ended). KeepsSinceOpening g.S.Store c.args.store.now c.args.store.now (g.W.Observer.account c.args.observer.now) (g.W.Observer.account c.opened.new.self) l) (sym c.requires.none)
-    (since_opened g.S.Store c.executed.ensures.value c.opened.ensures.noted c.opened.ensures.stays c.opened.ensures.waits)
+    (since_opened g.S.Store c.executed.ensures.value c.opened.ensures.noticed)
 
 pub returns-in-Err-clause-keeps : goal.returns-in-Err-clause-keeps
 returns-in-Err-clause-keeps g c =
@@ -153,4 +153,4 @@ returns-then-not-goes_on-clause-keeps g c =
     let inv = c.loop-capture.invariant in
     since_then g.S.Store inv.heeds c.push_reserved.ensures.items (λ some. inv.missed) inv.keeps
     (keeps_then g.S.Store c.read_capture.ensures.keeps
-    (keeps_ended g.S.Store c.ended-goes_on.ensures.noted c.ended-goes_on.ensures.goes_on c.ended-goes_on.ensures.stays c.ended-goes_on.ensures.waits))
+    (keeps_ended g.S.Store c.ended-goes_on.ensures.noticed c.ended-goes_on.ensures.goes_on))

@@ -27,7 +27,7 @@ returns-in-Ok-clause-notes g c clean old holds =
     begun_is c.apply_all.result.1 old c.args.gtids.now c.apply_all.ensures.begun (λ b. IsLedTo g.S.Store c.args.store.now c.apply_all.new.store false b (g.W.Observer.account c.args.observer.now) (g.W.Observer.account c.apply_all.new.observer) [])
     (led_likewise g.S.Store c.args.store.now store c.apply_all.new.store false begin (g.W.Observer.account c.args.observer.now) (g.W.Observer.account c.apply_all.new.observer) [] c.adopt.ensures.following
     ((led_through g.S.Store false begin store store c.apply_all.new.store (g.W.Observer.account c.args.observer.now) (g.W.Observer.account c.opened.new.self) (g.W.Observer.account c.apply_all.new.observer) [] [] refl (λ some. absurd (some refl))
-    (led_from g.S.Store false begin store c.executed.result.now (g.W.Observer.account c.args.observer.now) (g.W.Observer.account c.opened.new.self) whole (c.executed.ensures.value false begin whole) c.opened.ensures.noted c.opened.ensures.stays c.opened.ensures.waits)
+    (led_from g.S.Store false begin store c.executed.result.now (g.W.Observer.account c.args.observer.now) (g.W.Observer.account c.opened.new.self) whole (c.executed.ensures.value false begin whole) c.opened.ensures.noticed)
     (λ is now held. c.apply_all.ensures.keeps.notes clean is now held)).led))
 
 pub returns-in-Err-clause-notes : goal.returns-in-Err-clause-notes
@@ -37,7 +37,7 @@ pub returns-in-Ok-clause-heeds : goal.returns-in-Ok-clause-heeds
 returns-in-Ok-clause-heeds g c clean old holds on begun =
     let begin = adopted old c.args.gtids.now in
     let whole : Holds g.S.Store c.adopt.new.self begin = c.in-Ok.ensures.adopts (c.apply_all.ensures.keeps.store.clean clean) old holds in
-    subst (λ s. Holds g.S.Store s begin) (sym (c.apply_all.ensures.keeps.heeds false begin whole (c.opened.ensures.stays on))) whole
+    subst (λ s. Holds g.S.Store s begin) (sym (c.apply_all.ensures.keeps.heeds false begin whole (c.opened.ensures.noticed.stays on))) whole
 
 pub returns-in-Err-clause-heeds : goal.returns-in-Err-clause-heeds
 returns-in-Err-clause-heeds g c clean old holds on begun = absurd begun

@@ -12,7 +12,7 @@ returns-then-contains-clause-clears g c clean old holds =
 pub returns-then-contains-clause-notes : goal.returns-then-contains-clause-notes
 returns-then-contains-clause-notes g c clean old holds =
     led_opened g.S.Store c.args.store.now.following old c.args.store.now (g.W.Observer.account c.args.observer.now) (g.W.Observer.account c.opened.new.self) (stays_whole g.S.Store (λ h db is_open may. g.met.S.Store.settled h.store db is_open may) c.args.store.now old (λ left. left ≡ old) refl holds)
-    (opened_noted c.args.store.now.following old c.executed.result.now (g.W.Observer.account c.args.observer.now) (g.W.Observer.account c.opened.new.self) (c.executed.ensures.value false old holds) c.opened.ensures.noted c.opened.ensures.stays c.opened.ensures.waits)
+    (opened_noted c.args.store.now.following old c.executed.result.now (g.W.Observer.account c.args.observer.now) (g.W.Observer.account c.opened.new.self) (c.executed.ensures.value false old holds) c.opened.ensures.noticed)
 
 pub returns-then-not-follows-clause-clears : goal.returns-then-not-follows-clause-clears
 returns-then-not-follows-clause-clears g c clean old holds =
@@ -23,7 +23,7 @@ returns-then-not-follows-clause-clears g c clean old holds =
 pub returns-then-not-follows-clause-notes : goal.returns-then-not-follows-clause-notes
 returns-then-not-follows-clause-notes g c clean old holds =
     led_opened g.S.Store c.args.store.now.following old c.args.store.now (g.W.Observer.account c.args.observer.now) (g.W.Observer.account c.opened.new.self) (stays_whole g.S.Store (λ h db is_open may. g.met.S.Store.settled h.store db is_open may) c.args.store.now old (λ left. left ≡ old) refl holds)
-    (opened_noted c.args.store.now.following old c.executed.result.now (g.W.Observer.account c.args.observer.now) (g.W.Observer.account c.opened.new.self) (c.executed.ensures.value false old holds) c.opened.ensures.noted c.opened.ensures.stays c.opened.ensures.waits)
+    (opened_noted c.args.store.now.following old c.executed.result.now (g.W.Observer.account c.args.observer.now) (g.W.Observer.account c.opened.new.self) (c.executed.ensures.value false old holds) c.opened.ensures.noticed)
 
 pub returns-in-Err-clause-clears : goal.returns-in-Err-clause-clears
 returns-in-Err-clause-clears g c clean old holds =
@@ -37,7 +37,7 @@ returns-in-Err-clause-clears g c clean old holds =
 pub returns-in-Err-clause-notes : goal.returns-in-Err-clause-notes
 returns-in-Err-clause-notes g c clean old holds =
     led_opened g.S.Store c.args.store.now.following old c.list_deletes.new.store (g.W.Observer.account c.args.observer.now) (g.W.Observer.account c.opened.new.self) (c.in-Err.ensures.lists clean old holds).1
-    (opened_noted c.args.store.now.following old c.executed.result.now (g.W.Observer.account c.args.observer.now) (g.W.Observer.account c.opened.new.self) (c.executed.ensures.value false old holds) c.opened.ensures.noted c.opened.ensures.stays c.opened.ensures.waits)
+    (opened_noted c.args.store.now.following old c.executed.result.now (g.W.Observer.account c.args.observer.now) (g.W.Observer.account c.opened.new.self) (c.executed.ensures.value false old holds) c.opened.ensures.noticed)
 
 pub returns-clause-clears : goal.returns-clause-clears
 returns-clause-clears g c clean old holds =
@@ -54,7 +54,7 @@ pub returns-clause-notes : goal.returns-clause-notes
 returns-clause-notes g c clean old holds =
     let whole : Holds g.S.Store c.list_deletes.new.store old = (c.in-Ok.ensures.lists (c.apply.ensures.keeps.store.clean clean) old holds).1 in
     led_applied g.S.Store (λ h db is_open may. g.met.S.Store.settled h.store db is_open may) c.args.store.now c.list_deletes.new.store c.apply.new.store old (g.W.Observer.account c.args.observer.now) (g.W.Observer.account c.opened.new.self) (g.W.Observer.account c.apply.new.observer) c.list_deletes.ensures.keeps.following whole
-    (opened_noted c.args.store.now.following old c.executed.result.now (g.W.Observer.account c.args.observer.now) (g.W.Observer.account c.opened.new.self) (c.executed.ensures.value false old holds) c.opened.ensures.noted c.opened.ensures.stays c.opened.ensures.waits)
+    (opened_noted c.args.store.now.following old c.executed.result.now (g.W.Observer.account c.args.observer.now) (g.W.Observer.account c.opened.new.self) (c.executed.ensures.value false old holds) c.opened.ensures.noticed)
     refl (λ is now held. c.apply.ensures.keeps.notes clean is now held)
 
 pub returns-then-contains-clause-heeds : goal.returns-then-contains-clause-heeds
@@ -70,7 +70,7 @@ pub returns-clause-heeds : goal.returns-clause-heeds
 returns-clause-heeds g c clean old holds on =
     let whole : Holds g.S.Store c.list_deletes.new.store old = (c.in-Ok.ensures.lists (c.apply.ensures.keeps.store.clean clean) old holds).1 in
     stays_whole g.S.Store (λ h db is_open may. g.met.S.Store.settled h.store db is_open may) c.apply.new.store old (λ left. left ≡ old) refl
-    (subst (λ s. Holds g.S.Store s old) (sym (c.apply.ensures.keeps.heeds false old whole (c.opened.ensures.stays on))) whole)
+    (subst (λ s. Holds g.S.Store s old) (sym (c.apply.ensures.keeps.heeds false old whole (c.opened.ensures.noticed.stays on))) whole)
 
 pub returns-clause-keeps : goal.returns-clause-keeps
 returns-clause-keeps g c = store_then g.S.Store c.list_deletes.ensures.keeps c.apply.ensures.keeps.store

@@ -2,7 +2,7 @@ use Rattle.std.proofs.Common.{Bool, true, false, [], subst, sym, ◌∙◌, refl
 use Rattle.gather.specs.View.{delivery_value}
 use Rattle.store.specs.Store.{HoldsAs}
 use Rattle.replica.specs.Event.{TakesEvent}
-use Rattle.replica.specs.Noted.{HasBeenNoted, asked_about, Account, IsLedOver}
+use Rattle.replica.specs.Noted.{HasNotices, asked_about, Account, IsLedOver}
 use Rattle.replica.proofs.Noted.{Asks, led_to_stop, led_broken, led_whole}
 use Rattle.replica.proofs.Events.{halts, over_broken, over_whole, heeded}
 use Rattle.replica.proofs.Alone.{own_alone, taken_alone}
@@ -47,13 +47,13 @@ returns-then-is_halted-clause-keeps g c = record {
       let t0 : Account = g.W.Observer.account c.args.observer.now in
       let t1 : Account = g.W.Observer.account c.is_halted.new.observer in
       led_to_stop g.S.Store was old c.args.store.now d t0 t1 holds (c.is_halted.ensures.new was old holds c.if-is_halted.true)
-      (subst (λ (b : Bool). HasBeenNoted t0.noted t1.noted (asked_about old d b)) c.if-is_halted.true (c.is_halted.ensures.noted was old holds)) (c.is_halted.ensures.asked c.if-is_halted.true) c.is_halted.ensures.waits;
+      (subst (λ (b : Bool). HasNotices t0 t1 (asked_about old d b)) c.if-is_halted.true (c.is_halted.ensures.noticed was old holds)) (c.is_halted.ensures.asked c.if-is_halted.true);
 }
 
 pub returns-clause-keeps : goal.returns-clause-keeps
 returns-clause-keeps g c = record {
   store = record { following = c.apply.ensures.following; broken = λ b. (c.apply.ensures.broken b).1; clean = c.apply.ensures.clean };
-  stays = λ on. c.after_apply.ensures.stays (c.is_halted.ensures.stays on);
+  stays = λ on. c.after_apply.ensures.noticed.stays (c.is_halted.ensures.stays on);
   heeds = λ is now holds on.
       heeded g.S.Store is now (delivery_value c.args.delivery.now) c.args.store.now c.apply.new.self c.is_halted.result (g.W.Observer.account c.is_halted.new.observer).has_stopped holds (c.is_halted.ensures.heeds is now holds) (c.is_halted.ensures.stays on) c.if-is_halted.false
       (λ b. (c.apply.ensures.broken b).1) (λ content keeps it. (c.apply.ensures.known content keeps it).1);
@@ -65,13 +65,9 @@ returns-clause-keeps g c = record {
       let t1 : Account = g.W.Observer.account c.is_halted.new.observer in
       let t2 : Account = g.W.Observer.account c.after_apply.new.self in
       let asks : Asks old d t0 t1 t2 c.outcome-outcome.result = record {
-        asked = subst (λ (halts : Bool). HasBeenNoted t0.noted t1.noted (asked_about old d halts)) c.if-is_halted.false (c.is_halted.ensures.noted was old holds);
-        noted = c.after_apply.ensures.noted;
+        asked = subst (λ (halts : Bool). HasNotices t0 t1 (asked_about old d halts)) c.if-is_halted.false (c.is_halted.ensures.noticed was old holds);
+        noticed = c.after_apply.ensures.noticed;
         goes_on = λ fresh. sym (c.is_halted.ensures.heeds was old holds fresh) ∙ c.if-is_halted.false;
-        stays = c.is_halted.ensures.stays;
-        stays_after = c.after_apply.ensures.stays;
-        still = c.is_halted.ensures.waits;
-        waits = c.after_apply.ensures.waits;
         missed = λ fresh. c.is_halted.ensures.missed was old holds fresh c.if-is_halted.false;
       } in
       elim was as (λ b. HoldsAs g.S.Store b old store → IsLedOver g.S.Store store new b old t0 t2 []) [

@@ -1,7 +1,7 @@
 use Rattle.std.proofs.Common.{◌≡◌, ◌≤◌, get_or, length, arith}
 use Rattle.binlog.specs.EventView.{event_value}
 use Rattle.replica.proofs.Events.{carries_event, events_end}
-use Rattle.replica.proofs.Noted.{waits_none}
+use Rattle.replica.proofs.Noted.{no_notice}
 use Rattle.replica.proofs.dump.gather.Goals as goal
 
 pub returns-in_default-clause-err : goal.returns-in_default-clause-err
@@ -25,8 +25,8 @@ returns-in-Err-event-clause-err g c es ds stands =
     (carries_event c.args.follow.now c.args.payload.now (event_value c.in-Ok.event) some first c.in-Ok.ensures.found)
     (c.in-Err-event.ensures.fault es ds stands) c.reason_for.ensures.maps
 
-pub returns-in_default-clause-waits : goal.returns-in_default-clause-waits
-returns-in_default-clause-waits g c = waits_none (g.W.Observer.account c.args.observer.now).waits
+pub returns-in_default-clause-noticed : goal.returns-in_default-clause-noticed
+returns-in_default-clause-noticed g c = no_notice
 
-pub returns-in-Err-clause-waits : goal.returns-in-Err-clause-waits
-returns-in-Err-clause-waits g c = waits_none (g.W.Observer.account c.args.observer.now).waits
+pub returns-in-Err-clause-noticed : goal.returns-in-Err-clause-noticed
+returns-in-Err-clause-noticed g c = no_notice

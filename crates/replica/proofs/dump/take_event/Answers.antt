@@ -2,7 +2,7 @@ use Rattle.std.proofs.Common.{[], ◌∷◌, subst}
 use Rattle.gather.specs.View.{delivery_value, delivered}
 use Rattle.replica.specs.PayloadStep.{GathersMore, EndsDump}
 use Rattle.replica.proofs.Events.{ends_early, goes_on}
-use Rattle.replica.proofs.Keeps.{keeps_told, keeps_then}
+use Rattle.replica.proofs.Keeps.{keeps_noticed, keeps_then}
 use Rattle.replica.proofs.dump.take_event.Goals as goal
 
 pub returns-in-Ok-Some-clause-step : goal.returns-in-Ok-Some-clause-step
@@ -26,12 +26,12 @@ returns-in-Err-clause-step g c clean is now es ds stands holds = ends_early g.S.
 
 pub returns-in-Ok-Some-clause-keeps : goal.returns-in-Ok-Some-clause-keeps
 returns-in-Ok-Some-clause-keeps g c =
-    keeps_then g.S.Store (keeps_told g.S.Store c.gather.ensures.noted c.gather.ensures.stays c.gather.ensures.waits) c.apply.ensures.keeps
+    keeps_then g.S.Store (keeps_noticed g.S.Store c.gather.ensures.noticed) c.apply.ensures.keeps
 
 pub returns-in-Ok-None-clause-keeps : goal.returns-in-Ok-None-clause-keeps
-returns-in-Ok-None-clause-keeps g c = keeps_told g.S.Store c.gather.ensures.noted c.gather.ensures.stays c.gather.ensures.waits
+returns-in-Ok-None-clause-keeps g c = keeps_noticed g.S.Store c.gather.ensures.noticed
 
 pub returns-in-Err-clause-keeps : goal.returns-in-Err-clause-keeps
 returns-in-Err-clause-keeps g c =
-    keeps_then g.S.Store (keeps_told g.S.Store c.gather.ensures.noted c.gather.ensures.stays c.gather.ensures.waits)
-    (keeps_told g.S.Store c.refused.ensures.noted c.refused.ensures.stays c.refused.ensures.waits)
+    keeps_then g.S.Store (keeps_noticed g.S.Store c.gather.ensures.noticed)
+    (keeps_noticed g.S.Store c.refused.ensures.noticed)

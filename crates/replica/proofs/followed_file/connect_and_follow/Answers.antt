@@ -1,5 +1,5 @@
 use Rattle.std.proofs.Common.{refl}
-use Rattle.replica.proofs.Keeps.{keeps_told, keeps_then, since_opened, since_then}
+use Rattle.replica.proofs.Keeps.{keeps_noticed, keeps_then, since_opened, since_then}
 use Rattle.replica.proofs.followed_file.connect_and_follow.Goals as goal
 
 pub returns-in-Ok-clause-connects : goal.returns-in-Ok-clause-connects
@@ -14,8 +14,8 @@ returns-in-Ok-clause-connects g c clean was old holds =
 
 pub returns-in-Ok-clause-keeps : goal.returns-in-Ok-clause-keeps
 returns-in-Ok-clause-keeps g c =
-    since_then g.S.Store (λ some. absurd (some refl)) refl (λ some. absurd (some refl)) (since_opened g.S.Store c.executed.ensures.value c.opened.ensures.noted c.opened.ensures.stays c.opened.ensures.waits)
-    (keeps_then g.S.Store (keeps_told g.S.Store c.connected.ensures.noted c.connected.ensures.stays c.connected.ensures.waits) c.follow_observed-end.ensures.keeps)
+    since_then g.S.Store (λ some. absurd (some refl)) refl (λ some. absurd (some refl)) (since_opened g.S.Store c.executed.ensures.value c.opened.ensures.noticed)
+    (keeps_then g.S.Store (keeps_noticed g.S.Store c.connected.ensures.noticed) c.follow_observed-end.ensures.keeps)
 
 pub returns-in-Err-clause-keeps : goal.returns-in-Err-clause-keeps
-returns-in-Err-clause-keeps g c = since_opened g.S.Store c.executed.ensures.value c.opened.ensures.noted c.opened.ensures.stays c.opened.ensures.waits
+returns-in-Err-clause-keeps g c = since_opened g.S.Store c.executed.ensures.value c.opened.ensures.noticed

@@ -11,14 +11,14 @@ use Rattle.replica.proofs.Observed.{may_later}
 use Rattle.replica.proofs.Advance.{none_after}
 use Rattle.replica.proofs.Runs.{begins}
 use Rattle.replica.proofs.FromReader.{taking_more, taken, no_end, is_ended, not_ended, going_on, Keeps-from_none}
-use Rattle.replica.proofs.Keeps.{keeps_told, keeps_then}
+use Rattle.replica.proofs.Keeps.{keeps_noticed, keeps_then}
 use Rattle.replica.proofs.reader.read_stream.Goals as goal
 
 pub loop-reader-init : goal.loop-reader-init
 loop-reader-init g c = record {
   some = search rules;
   may = c.feed_observed.ensures.may_end (rw c.new-session.ensures.ended tt);
-  keeps = keeps_then g.S.Store (keeps_told g.S.Store c.received.ensures.noted c.received.ensures.stays c.received.ensures.waits) c.feed_observed.ensures.keeps;
+  keeps = keeps_then g.S.Store (keeps_noticed g.S.Store c.received.ensures.noticed) c.feed_observed.ensures.keeps;
   taking = record {
     read = [];
     consumes = Consumes-nil (g.R.Read.remaining c.args.reader.now);
@@ -35,9 +35,9 @@ pub loop-reader-preserved : goal.loop-reader-preserved
 loop-reader-preserved g c = record {
   some = search rules;
   may = c.feed_observed-in-Ok.ensures.may_end
-      (may_later (end_of c.loop-reader.session).reason (g.W.Observer.account c.loop-reader.observer) (g.W.Observer.account c.received-in-Ok.new.self) [] c.received-in-Ok.ensures.stays c.received-in-Ok.ensures.waits c.loop-reader.invariant.may);
+      (may_later (end_of c.loop-reader.session).reason (g.W.Observer.account c.loop-reader.observer) (g.W.Observer.account c.received-in-Ok.new.self) [] c.received-in-Ok.ensures.noticed.stays c.received-in-Ok.ensures.noticed.waits c.loop-reader.invariant.may);
   keeps = keeps_then g.S.Store c.loop-reader.invariant.keeps
-      (keeps_then g.S.Store (keeps_told g.S.Store c.received-in-Ok.ensures.noted c.received-in-Ok.ensures.stays c.received-in-Ok.ensures.waits) c.feed_observed-in-Ok.ensures.keeps);
+      (keeps_then g.S.Store (keeps_noticed g.S.Store c.received-in-Ok.ensures.noticed) c.feed_observed-in-Ok.ensures.keeps);
   taking = taking_more g.S.Store c.args.config.limit (length c.args.piece.now) c.args.first.now c.args.store.now c.loop-reader.session c.loop-reader.store (g.R.Read.remaining c.args.reader.now) (g.R.Read.remaining c.loop-reader.reader)
       c.feed_observed-in-Ok.new.self c.feed_observed-in-Ok.new.store (g.R.Read.remaining c.read_some.new.reader) (take c.in-Ok.count c.read_some.new.piece) c.loop-reader.invariant.taking
       (none_after c.loop-reader.session.ended (not_ended (λ e. e.now) c.ended.result c.loop-reader.session.ended c.ended.ensures c.loop-reader-test.ensures)) (search rules) c.in-Ok.ensures.bytes.0

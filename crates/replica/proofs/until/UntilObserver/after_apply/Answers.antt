@@ -3,14 +3,21 @@ use Rattle.gtid.specs.Identifier.{Ids}
 use Rattle.replica.specs.Missing.{is_over}
 use Rattle.gather.specs.View.{delivery_value}
 use Rattle.replica.specs.Noted.{StillWaits, after}
-use Rattle.replica.proofs.Missing.{either_stays, after_none}
+use Rattle.replica.proofs.Missing.{apart_noted, either_stays, after_none}
 use Rattle.replica.proofs.until.UntilObserver.after_apply.Goals as goal
 
-pub returns-clause-stays : goal.returns-clause-stays
-returns-clause-stays g c =
+pub returns : goal.returns
+returns g c =
     let was = c.args.self.now.missing in
     let d = delivery_value c.args.delivery.now in
     let o = c.args.outcome.now in
     let left : StillWaits was (after d o ∷ []) c.left_after.result = subst (λ (m : Option Ids). StillWaits m (after d o ∷ []) c.left_after.result) c.take.ensures.value c.left_after.ensures in
-    either_stays (is_over was) (g.W.Observer.account c.args.self.now.inner).has_stopped (is_over c.left_after.result) (g.W.Observer.account c.after_apply.new.self).has_stopped
-    (after_none was d o c.left_after.result left) c.after_apply.ensures.stays
+    record {
+      noticed = record {
+        noted = apart_noted c.args.self.now.is_apart (g.W.Observer.account c.args.self.now.inner).noted (g.W.Observer.account c.after_apply.new.self).noted (after d o ∷ []) c.after_apply.ensures.noticed.noted;
+        waits = left;
+        stays =
+            either_stays (is_over was) (g.W.Observer.account c.args.self.now.inner).has_stopped (is_over c.left_after.result) (g.W.Observer.account c.after_apply.new.self).has_stopped
+            (after_none was d o c.left_after.result left) c.after_apply.ensures.noticed.stays;
+      };
+    }
