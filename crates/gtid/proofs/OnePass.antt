@@ -1,6 +1,7 @@
--- Whether one list is within another, found in one pass over both.
+-- Whether one list is within another or apart from it, found in one pass over both.
 use Rattle.std.proofs.Common.{◌≡◌, ℕ, ◌⊎◌, inl, inr, Bool, true, false, ◌&&◌, ◌||◌, ◌<◌, ◌≤◌, List, [], ◌∷◌, length, drop, slice_index_or, refl, ap, sym, ◌∙◌, arith}
 use Rattle.std.specs.Bool.{IsTrue}
+use Rattle.std.proofs.Math.Bool.{or-false}
 use Rattle.std.proofs.lemmas.Bool.{false≢true}
 use Rattle.std.proofs.lemmas.Bool.Decides.{nat_tests, leb_tells}
 use Rattle.std.proofs.lemmas.Slice.Eq.{bytes_eq-Decides}
@@ -26,6 +27,10 @@ left_of true b is = refl
 left_of false b is = absurd (false≢true is)
 
 -- ---- Intervals.
+
+-- no number is in both
+abbrev pub AreApart : List Interval → List Interval → Type 0
+AreApart intervals of = (n : ℕ) → has intervals n ≡ true → has of n ≡ false
 
 -- each number of the first is in the second
 abbrev pub AreIn : List Interval → List Interval → Type 0
@@ -130,62 +135,141 @@ onward_gap (p ∷ rest) (x ∷ others) d o some some_left begins all =
     let outside : has (x ∷ others) p.lo ≡ false = none (is_below p.lo x begins) (below_least x.hi others p.lo o.left_least.3 (omega (arith, o.left_least.1))) in
     absurd (false≢true (sym outside ∙ o.back all p.lo (begins_in p rest o.parts_least.1)))
 
--- ---- Groups.
-
--- each GTID of the first is in the second
-abbrev pub AreListed : List Group → List Group → Type 0
-AreListed groups of = (q : Id) → is_listed q groups ≡ true → is_listed q of ≡ true
+-- ---- Intervals that are apart.
 
 -- what is left of both says the same as all of both
-pub record Passed (groups of left right : List Group) : Type 0 where
+pub record ApartOnward (intervals of parts left : List Interval) : Type 0 where
+  pub parts_least : AreLeast 0 parts
+  pub left_least : AreLeast 0 left
+  pub on : AreApart parts left → AreApart intervals of
+  pub back : AreApart intervals of → AreApart parts left
+
+right_none : (a b : Bool) → (a || b) ≡ false → b ≡ false
+right_none true b none = absurd (false≢true (sym none))
+right_none false b none = none
+
+-- an interval that ends before the first part begins is left out
+before_parts : (p x : Interval) (rest others : List Interval) → AreLeast 0 (p ∷ rest) → x.hi ≤ p.lo → AreApart (p ∷ rest) others → AreApart (p ∷ rest) (x ∷ others)
+before_parts p x rest others least ends all n is =
+    let low : p.lo ≤ n = not_below n p rest least is in
+    none (is_above n x (omega arith)) (all n is)
+
+-- a part that ends before the first of the others begins is done
+part_before : (p x : Interval) (rest others : List Interval) → AreLeast 0 (x ∷ others) → p.hi ≤ x.lo → AreApart rest (x ∷ others) → AreApart (p ∷ rest) (x ∷ others)
+part_before p x rest others least ends all n is = elim (either (is_within n p) (has rest n) is) [
+  | inl here ↦ (
+      let high : n < p.hi = within_hi n p here in
+      none (is_below n x (omega arith)) (below_least x.hi others n least.3 (omega (arith, least.1))))
+  | inr later ↦ all n later
+]
+
+-- a part and an interval that overlap have a number in common
+in_both : (p x : Interval) (rest others : List Interval) (n : ℕ) → p.lo ≤ n → n < p.hi → x.lo ≤ n → n < x.hi → AreApart (p ∷ rest) (x ∷ others) → IsTrue false
+in_both p x rest others n low high low_of high_of all =
+    let here : has (p ∷ rest) n ≡ true = left_of (is_within n p) (has rest n) (is_in n p low high) in
+    let there : has (x ∷ others) n ≡ true = left_of (is_within n x) (has others n) (is_in n x low_of high_of) in
+    absurd (false≢true (sym (all n here) ∙ there))
+
+pub apart_first : {intervals of : List Interval} → AreLeast 0 intervals → AreLeast 0 of → ApartOnward intervals of intervals of
+apart_first least least_of = record { parts_least = least; left_least = least_of; on = λ all. all; back = λ all. all }
+
+pub apart_left : {intervals of : List Interval} (parts left : List Interval) (d : Interval) → ApartOnward intervals of parts left → 1 ≤ length parts → 1 ≤ length left →
+    (slice_index_or left 0 d).hi ≤ (slice_index_or parts 0 d).lo → ApartOnward intervals of parts (drop 1 left)
+apart_left [] left d o some some_left ends = absurd (omega arith)
+apart_left (p ∷ rest) [] d o some some_left ends = absurd (omega arith)
+apart_left (p ∷ rest) (x ∷ others) d o some some_left ends = record {
+  parts_least = o.parts_least;
+  left_least = lower_end x.hi others o.left_least.3;
+  on = λ all. o.on (before_parts p x rest others o.parts_least ends all);
+  back = λ all n is. right_none (is_within n x) (has others n) (o.back all n is);
+}
+
+pub apart_part : {intervals of : List Interval} (parts left : List Interval) (d : Interval) → ApartOnward intervals of parts left → 1 ≤ length parts → 1 ≤ length left →
+    (slice_index_or parts 0 d).hi ≤ (slice_index_or left 0 d).lo → ApartOnward intervals of (drop 1 parts) left
+apart_part [] left d o some some_left ends = absurd (omega arith)
+apart_part (p ∷ rest) [] d o some some_left ends = absurd (omega arith)
+apart_part (p ∷ rest) (x ∷ others) d o some some_left ends = record {
+  parts_least = lower_end p.hi rest o.parts_least.3;
+  left_least = o.left_least;
+  on = λ all. o.on (part_before p x rest others o.left_least ends all);
+  back = λ all n is. o.back all n (right_of (is_within n p) (has rest n) is);
+}
+
+-- no part is left
+pub apart_all : {intervals of : List Interval} (parts left : List Interval) → ApartOnward intervals of parts left → length parts < 1 → AreApart intervals of
+apart_all [] left o none = o.on (λ n is. absurd (false≢true is))
+apart_all (p ∷ rest) left o none = absurd (omega arith)
+
+-- none of the others is left
+pub apart_none : {intervals of : List Interval} (parts left : List Interval) → ApartOnward intervals of parts left → length left < 1 → AreApart intervals of
+apart_none parts [] o none = o.on (λ n is. refl)
+apart_none parts (x ∷ others) o none = absurd (omega arith)
+
+-- a part and one of the others overlap
+pub apart_not : {intervals of : List Interval} (parts left : List Interval) (d : Interval) → ApartOnward intervals of parts left → 1 ≤ length parts → 1 ≤ length left →
+    (slice_index_or parts 0 d).lo < (slice_index_or left 0 d).hi → (slice_index_or left 0 d).lo < (slice_index_or parts 0 d).hi → AreApart intervals of → IsTrue false
+apart_not [] left d o some some_left before after all = absurd (omega arith)
+apart_not (p ∷ rest) [] d o some some_left before after all = absurd (omega arith)
+apart_not (p ∷ rest) (x ∷ others) d o some some_left before after all = elim (leb_tells p.lo x.lo) [
+  | inl le ↦ in_both p x rest others x.lo le.1 after (omega arith) o.left_least.1 (o.back all)
+  | inr less ↦ in_both p x rest others p.lo (omega arith) o.parts_least.1 (omega (arith, less.1)) before (o.back all)
+]
+
+-- ---- Groups.
+
+-- the second has each number of the first, or none of them
+abbrev HasAll : Bool → List Interval → List Interval → Type 0
+HasAll there intervals of = (n : ℕ) → has intervals n ≡ true → has of n ≡ there
+
+-- each GTID of the first is in the second, or none is
+abbrev pub ListsAll : Bool → List Group → List Group → Type 0
+ListsAll there groups of = (q : Id) → is_listed q groups ≡ true → is_listed q of ≡ there
+
+-- what is left of both says the same as all of both
+pub record Passed (there : Bool) (groups of left right : List Group) : Type 0 where
   pub left_ascend : Ascend (sources left)
   pub right_ascend : Ascend (sources right)
-  pub on : AreListed left right → AreListed groups of
-  pub back : AreListed groups of → AreListed left right
+  pub on : ListsAll there left right → ListsAll there groups of
+  pub back : ListsAll there groups of → ListsAll there left right
 
--- the next source's, and those after it
-source_on : (q : Id) (s : List ℕ) (a b : List Interval) (l r : List Group) → AreIn a b → AreListed l r → ((bytes_eq q.0 s && has a q.1) || is_listed q l) ≡ true → ((bytes_eq q.0 s && has b q.1) || is_listed q r) ≡ true
-source_on q s a b l r here later is = elim (either (bytes_eq q.0 s && has a q.1) (is_listed q l) is) [
-  | inl one ↦ left_of (bytes_eq q.0 s && has b q.1) (is_listed q r) (both (bytes_eq q.0 s) one)
-  | inr other ↦ right_of (bytes_eq q.0 s && has b q.1) (is_listed q r) (later q other)
-]
-  where
-    both : (e : Bool) → (e && has a q.1) ≡ true → (e && has b q.1) ≡ true
-    both true is = here q.1 is
-    both false is = is
+-- whether a GTID is of the next source, whether the two have its number there, and whether they have it further on
+both_parts : (there e a b l r : Bool) → (e ≡ true → l ≡ false) → (e ≡ true → r ≡ false) → (a ≡ true → b ≡ there) → (l ≡ true → r ≡ there) → ((e && a) || l) ≡ true → ((e && b) || r) ≡ there
+both_parts there true a b l r no_l no_r here later is = (λ i. b || no_r refl i) ∙ or-false b ∙ here (sym (or-false a) ∙ (λ i. a || sym (no_l refl) i) ∙ is)
+both_parts there false a b l r no_l no_r here later is = later is
+
+next_part : (there e b r : Bool) → e ≡ true → r ≡ false → ((e && b) || r) ≡ there → b ≡ there
+next_part there true b r same none is = sym (or-false b) ∙ (λ i. b || sym none i) ∙ is
+next_part there false b r same none is = absurd (false≢true same)
+
+later_part : (there e b l r : Bool) → (e ≡ true → l ≡ false) → l ≡ true → ((e && b) || r) ≡ there → r ≡ there
+later_part there true b l r no_l one is = absurd (false≢true (sym (no_l refl) ∙ one))
+later_part there false b l r no_l one is = is
 
 -- the numbers of the next source
-source_numbers : (s : List ℕ) (a b : List Interval) (left right l r : List Group) → Taken [] s left a l → Taken [] s right b r → AreListed left right → AreIn a b
-source_numbers s a b left right l r from_left from_right all n is =
+source_numbers : {there : Bool} (s : List ℕ) (a b : List Interval) (left right l r : List Group) → Taken [] s left a l → Taken [] s right b r → ListsAll there left right → HasAll there a b
+source_numbers {there} s a b left right l r from_left from_right all n is =
     let same = (bytes_eq-Decides s s).1 refl in
     let listed : is_listed (s, n) left ≡ true = from_left.listed (s, n) ∙ left_of (bytes_eq s s && has a n) (is_listed (s, n) l) ((λ i. same i && has a n) ∙ is) in
-    let there : ((bytes_eq s s && has b n) || is_listed (s, n) r) ≡ true = sym (from_right.listed (s, n)) ∙ all (s, n) listed in
-    elim (either (bytes_eq s s && has b n) (is_listed (s, n) r) there) [
-      | inl one ↦ (λ i. sym same i && has b n) ∙ one
-      | inr other ↦ absurd (false≢true (sym (none_above s r (s, n) from_right.above same) ∙ other))
-    ]
+    next_part there (bytes_eq s s) (has b n) (is_listed (s, n) r) same (none_above s r (s, n) from_right.above same) (sym (from_right.listed (s, n)) ∙ all (s, n) listed)
 
 -- the sources after it
-source_rest : (s : List ℕ) (a b : List Interval) (left right l r : List Group) → Taken [] s left a l → Taken [] s right b r → AreListed left right → AreListed l r
-source_rest s a b left right l r from_left from_right all q is =
-    let there : ((bytes_eq q.0 s && has b q.1) || is_listed q r) ≡ true = sym (from_right.listed q) ∙ all q (from_left.listed q ∙ right_of (bytes_eq q.0 s && has a q.1) (is_listed q l) is) in
-    elim (either (bytes_eq q.0 s && has b q.1) (is_listed q r) there) [
-      | inl one ↦ absurd (false≢true (sym (none_above s l q from_left.above (first (bytes_eq q.0 s) (has b q.1) one)) ∙ is))
-      | inr other ↦ other
-    ]
-  where
-    first : (x y : Bool) → (x && y) ≡ true → x ≡ true
-    first true y is = refl
-    first false y is = is
+source_rest : {there : Bool} (s : List ℕ) (a b : List Interval) (left right l r : List Group) → Taken [] s left a l → Taken [] s right b r → ListsAll there left right → ListsAll there l r
+source_rest {there} s a b left right l r from_left from_right all q is =
+    later_part there (bytes_eq q.0 s) (has b q.1) (is_listed q l) (is_listed q r) (none_above s l q from_left.above) is
+    (sym (from_right.listed q) ∙ all q (from_left.listed q ∙ right_of (bytes_eq q.0 s && has a q.1) (is_listed q l) is))
 
-pub passed_first : {groups of : List Group} → Ascend (sources groups) → Ascend (sources of) → Passed groups of groups of
+pub passed_first : {there : Bool} {groups of : List Group} → Ascend (sources groups) → Ascend (sources of) → Passed there groups of groups of
 passed_first ascend ascend_of = record { left_ascend = ascend; right_ascend = ascend_of; on = λ all. all; back = λ all. all }
 
-pub passed_source : {groups of left right : List Group} (s : List ℕ) (a b : List Interval) (l r : List Group) → Passed groups of left right → Taken [] s left a l → Taken [] s right b r → AreIn a b → Passed groups of l r
-passed_source {left = left} {right = right} s a b l r p from_left from_right here = record {
+pub passed_source : {there : Bool} {groups of left right : List Group} (s : List ℕ) (a b : List Interval) (l r : List Group) → Passed there groups of left right →
+    Taken [] s left a l → Taken [] s right b r → HasAll there a b → Passed there groups of l r
+passed_source {there} {left = left} {right = right} s a b l r p from_left from_right here = record {
   left_ascend = from_left.ascend;
   right_ascend = from_right.ascend;
-  on = λ later. p.on (λ q is. from_right.listed q ∙ source_on q s a b l r here later (sym (from_left.listed q) ∙ is));
+  on = λ later. p.on (λ q is.
+      from_right.listed q
+      ∙ both_parts there (bytes_eq q.0 s) (has a q.1) (has b q.1) (is_listed q l) (is_listed q r) (none_above s l q from_left.above) (none_above s r q from_right.above) (here q.1) (later q)
+      (sym (from_left.listed q) ∙ is));
   back = λ all. source_rest s a b left right l r from_left from_right (p.back all);
 }
 
@@ -194,10 +278,11 @@ pub none_higher : (s : List ℕ) (left right : List Group) → (IsNext s left ×
 none_higher s left right (inl (next, low)) = (next_no_higher s left next, low)
 none_higher s left right (inr (low, next)) = (low, next_no_higher s right next)
 
--- the next source's numbers, where all are in the other
-pub passed_numbers : {groups of left right : List Group} (s : List ℕ) (a b : List Interval) (l r : List Group) → Passed groups of left right → Taken [] s left a l → Taken [] s right b r → AreListed groups of → AreIn a b
+-- the next source's numbers
+pub passed_numbers : {there : Bool} {groups of left right : List Group} (s : List ℕ) (a b : List Interval) (l r : List Group) → Passed there groups of left right →
+    Taken [] s left a l → Taken [] s right b r → ListsAll there groups of → HasAll there a b
 passed_numbers {left = left} {right = right} s a b l r p from_left from_right all = source_numbers s a b left right l r from_left from_right (p.back all)
 
 -- no source is left
-pub passed_all : {groups of left right : List Group} → Passed groups of left right → left ≡ [] → AreListed groups of
+pub passed_all : {there : Bool} {groups of left right : List Group} → Passed there groups of left right → left ≡ [] → ListsAll there groups of
 passed_all p none = p.on (λ q is. absurd (false≢true (sym (ap (is_listed q) none) ∙ is)))

@@ -196,3 +196,23 @@ is_subset_is true x y left right is_left is_right tells =
 is_subset_is false x y left right is_left is_right tells =
     sym (false_from_ne_true (set.is_subset left right) (λ all. false≢true (tells.1 (λ q one.
     contained y right is_right q ∙ set.is_subset-contains id_cmp_total left right all q (sym (contained x left is_left q) ∙ one)))))
+
+-- of two sets that have nothing in common the second lists nothing of the first
+pub apart_listed : (x y : List Group) (left right : Ids) → ids_of x ≡ left → ids_of y ≡ right → set.intersection left right ≡ set.empty → (q : Id) → is_listed q x ≡ true → is_listed q y ≡ false
+apart_listed x y left right is_left is_right none q is =
+    contained y right is_right q
+    ∙ other (set.contains left q) (set.contains right q) (sym (contained x left is_left q) ∙ is)
+    (sym (set.contains-intersection id_cmp_total left right q) ∙ ap (λ s. set.contains s q) none ∙ set.contains-empty id_cmp q)
+  where
+    other : (a b : Bool) → a ≡ true → (a && b) ≡ false → b ≡ false
+    other true b one none = none
+    other false b one none = absurd (false≢true one)
+
+-- nothing of it is removed
+pub difference_apart : (x y : List Group) (left right : Ids) → ids_of x ≡ left → ids_of y ≡ right → ((q : Id) → is_listed q x ≡ true → is_listed q y ≡ false) → left ≡ set.difference left right
+difference_apart x y left right is_left is_right apart = set.same_set id_cmp_total id_cmp-same left (set.difference left right) (λ q.
+    stays (set.contains left q) (set.contains right q) (λ one. sym (contained y right is_right q) ∙ apart q (contained x left is_left q ∙ one)) ∙ sym (set.contains-difference id_cmp_total left right q))
+  where
+    stays : (a b : Bool) → (a ≡ true → b ≡ false) → a ≡ (a && not b)
+    stays true b out = ap not (sym (out refl))
+    stays false b out = refl

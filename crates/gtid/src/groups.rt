@@ -114,6 +114,26 @@ pub(crate) fn are_subset_in_one_pass(groups: &[Group], of: &[Group]) -> bool
     true
 }
 
+/// Whether no GTID is in both, in one pass over both.
+pub(crate) fn are_apart_in_one_pass(groups: &[Group], of: &[Group]) -> bool
+    requires groups { Ascend (sources groups.now) }
+    requires of { Ascend (sources of.now) }
+    ensures { IsTrue result ↔ ((q : Id) → is_listed q groups.now ≡ true
+        → is_listed q of.now ≡ false) }
+{
+    let (mut left, mut right) = (groups, of);
+    while let Some(source) = lowest(left, right) {
+        let (of_left, left_rest) = split(left, &source);
+        let (of_right, right_rest) = split(right, &source);
+        if !interval::are_apart_in_one_pass(of_left, of_right) {
+            return false;
+        }
+        left = left_rest;
+        right = right_rest;
+    }
+    true
+}
+
 /// Adds a GTID, and returns whether it is new. The only error is `Memory`, and only for a new GTID.
 pub(crate) fn insert(groups: &mut Vec<Group>, gtid: Gtid) -> Result<bool, GtidFault>
     requires ascend { Ascend (sources groups.old.items) }

@@ -76,6 +76,30 @@ pub(crate) fn is_subset_in_one_pass(intervals: &[Interval], of: &[Interval]) -> 
     true
 }
 
+/// Whether no number is in both, in one pass over both.
+pub(crate) fn are_apart_in_one_pass(intervals: &[Interval], of: &[Interval]) -> bool
+    requires intervals { AreLeast 0 intervals.now }
+    requires of { AreLeast 0 of.now }
+    ensures { IsTrue result ↔ ((n : ℕ) → has intervals.now n ≡ true → has of.now n ≡ false) }
+{
+    let mut parts = intervals;
+    let mut left = of;
+    while let [part, rest @ ..] = parts {
+        let [first, others @ ..] = left else {
+            return true;
+        };
+        if first.hi <= part.lo {
+            left = others;
+            continue;
+        }
+        if first.lo < part.hi {
+            return false;
+        }
+        parts = rest;
+    }
+    true
+}
+
 /// Whether each number of an interval is in the others.
 fn lies_in(interval: Interval, of: &[Interval]) -> bool
     requires some { interval.lo < interval.hi }

@@ -18,7 +18,8 @@ use crate::gathering::gather;
 use crate::grammar::scan;
 use crate::group::Group;
 use crate::groups::{
-    are_subset, are_subset_in_one_pass, combine_groups, insert, intervals_of, reserve,
+    are_apart_in_one_pass, are_subset, are_subset_in_one_pass, combine_groups, insert,
+    intervals_of, reserve,
 };
 use crate::identifier::Gtid;
 use crate::interval;
@@ -125,13 +126,14 @@ impl GtidSet {
         Ok(())
     }
 
-    /// Removes the GTIDs of the other set. The only error is `Memory`, which comes only if the other set is not empty and
-    /// lacks a GTID of this one, and leaves the set as it was.
+    /// Removes the GTIDs of the other set. The only error is `Memory`, which comes only if the other set has some of this
+    /// one's GTIDs and lacks others, and leaves the set as it was.
     pub fn subtract(&mut self, other: &GtidSet) -> Result<(), GtidFault>
         ensures ok { OnOk result (self.new ≡ set.difference self.old other.now) }
         ensures err { OnErr result ((result ≡ Err GtidFault.Memory) × (self.new ≡ self.old)) }
         ensures none { (self.old ≡ set.empty) ⊎ (other.now ≡ set.empty) → IsOk result }
         ensures subset { set.is_subset self.old other.now ≡ true → IsOk result }
+        ensures apart { set.intersection self.old other.now ≡ set.empty → IsOk result }
     {
         if self.groups.len() == 0 {
             return Ok(());
@@ -142,6 +144,10 @@ impl GtidSet {
         if are_subset_in_one_pass(&self.groups, &other.groups) {
             self.groups.clear();
             return Ok(());
+        }
+        // One of these two passes ends at the first GTID of this set: it is either in the other set or not.
+        if are_apart_in_one_pass(&self.groups, &other.groups) {
+            return Ok(()); // nothing is in both
         }
         let alloc = *self.groups.allocator();
         self.groups = combine_groups(alloc, Combination::Difference, &self.groups, &other.groups)?;
