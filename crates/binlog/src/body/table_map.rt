@@ -67,19 +67,34 @@ impl TableDef {
 }
 
 impl TableMap<'_> {
-    /// Copies the names and the column types, so that they outlive the event. The only error is `Memory`.
+    /// Copies the names and the column types, so that they outlive the event. The only error is `Memory`, which comes
+    /// only if a name has a byte or there is a column.
     pub fn copy(&self, alloc: Global) -> Result<TableDef, EventFault>
         ensures ok { IfOk result (λ copied. (copied.schema.items ≡ self.now.schema.now)
             × (copied.table.items ≡ self.now.table.now)
             × (kinds copied.types.items ≡ self.now.types)) }
         ensures err { OnErr result (result ≡ Err (record { kind = Memory; at = 0 })) }
+        ensures some { OnErr result (0 < length self.now.schema.now + length self.now.table.now
+            + length self.now.types) }
     {
         Ok(TableDef {
-            schema: Vec::from_slice(alloc, self.schema)?,
-            table: Vec::from_slice(alloc, self.table)?,
+            schema: copy_bytes(alloc, self.schema)?,
+            table: copy_bytes(alloc, self.table)?,
             types: self.types.to_vec(alloc)?,
         })
     }
+}
+
+/// A copy of the bytes. The only error is `Memory`, which comes only if there are any.
+fn copy_bytes(alloc: Global, bytes: &[u8]) -> Result<Vec<u8>, EventFault>
+    ensures ok { IfOk result (λ copied. copied.items ≡ bytes.now) }
+    ensures err { OnErr result (result ≡ Err (record { kind = Memory; at = 0 })) }
+    ensures some { OnErr result (0 < length bytes.now) }
+{
+    if bytes.is_empty() {
+        return Ok(Vec::new(alloc)); // no byte is to be kept
+    }
+    Ok(Vec::from_slice(alloc, bytes)?)
 }
 
 /// The part of a table map before the columns.

@@ -1,7 +1,7 @@
 //! The types of a table's columns. MySQL Source Documentation, "Binlog Event", the page
 //! `binary_log::Table_map_event`.
 
-ghost use Rattle.std.specs.Prelude.{◌≡◌, ◌==◌, List, length, IfOk, OnErr, Err, IsTrue};
+ghost use Rattle.std.specs.Prelude.{◌≡◌, ◌==◌, ◌<◌, List, length, IfOk, OnErr, Err, IsTrue};
 ghost use Rattle.std.specs.List.{AllByRecursion};
 ghost use Rattle.std.specs.Iterator.{YieldsFirstBy, item_count};
 ghost use Rattle.binlog.specs.Row.{kinds};
@@ -106,10 +106,11 @@ impl<'a> ColumnTypes<'a> {
         ColumnTypesIter { left: self.columns }
     }
 
-    /// The types as a vector. The only error is `Memory`.
+    /// The types as a vector. The only error is `Memory`, which comes only if there is a column.
     pub fn to_vec(&self, alloc: Global) -> Result<Vec<ColumnType>, EventFault>
         ensures ok { IfOk result (λ types. kinds types.items ≡ self.now) }
         ensures err { OnErr result (result ≡ Err (record { kind = Memory; at = 0 })) }
+        ensures some { OnErr result (0 < length self.now) }
     {
         let mut types = Vec::with_capacity(alloc, self.len())?;
         for column in self.iter() {
