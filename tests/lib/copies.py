@@ -47,10 +47,11 @@ def loaded_set(gtids, copy, transactions=1):
     return with_source(gtids, source(gtids, copy), 1 + transactions)
 
 
-def source(gtids, copy):
-    """The source of the transactions of a copy, by RFC 9562, 5.5: of the set as it is printed, and of the lines behind it."""
+def source(gtids, copy, first=b'mrep copy 1\n'):
+    """The source of the transactions of a copy, by RFC 9562, 5.5: of its first line, its set as it is printed, and the lines after
+    it."""
     lines = copy.split(b'\n', 2)[2]
-    name = uuid.NAMESPACE_OID.bytes + gtids.encode() + hashlib.sha1(lines).digest()
+    name = uuid.NAMESPACE_OID.bytes + first + gtids.encode() + hashlib.sha1(lines).digest()
     return str(uuid.UUID(bytes=hashlib.sha1(name).digest()[:16], version=5))
 
 

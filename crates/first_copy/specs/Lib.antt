@@ -6,6 +6,7 @@ pub mod RowLines
 pub mod DefinedTables
 pub mod CopyLines
 pub mod CopySteps
+pub mod CopySources
 pub mod Supplied
 pub mod LoadedText
 pub mod CopyFaults

@@ -10,7 +10,7 @@ use std::alloc::Global;
 use std::io::BufRead;
 
 /// The first line, which says what the text is.
-const FIRST: &[u8] = b"mrep copy 1\n";
+pub(crate) const FIRST: &[u8] = b"mrep copy 1\n";
 
 /// Reads the first two lines: what the text is, and the set of the transactions whose changes are in the rows.
 pub fn read_head<R: BufRead>(alloc: Global, reader: &mut R) -> Result<GtidSet, CopyFault>

@@ -1,8 +1,10 @@
 //! What a copy says that was read to its end.
 
-ghost use Rattle.std.specs.Prelude.{◌≡◌, true, false, IfOk, OnOk};
+ghost use Rattle.std.specs.Prelude.{◌≡◌, ◌++◌, ℕ, List, true, false, IfOk, IfSome, OnOk};
 ghost use Rattle.std.specs.Io.KnownBytes.{prepend_known};
-ghost use Rattle.first_copy.specs.Heads.{HasHead, FollowsHead};
+ghost use Rattle.sha1.specs.Sha1.{Holds};
+ghost use Rattle.first_copy.specs.CopySources.{IsMadeOf};
+ghost use Rattle.first_copy.specs.Heads.{HasCopySource, FollowsHead};
 
 use crate::copied_rows::CopiedRows;
 use crate::copy_fault::CopyFault;
@@ -70,6 +72,10 @@ impl Tallied {
     /// Takes all that a loader gives, up to its end.
     fn take<R: BufRead>(&mut self, loader: &mut Loader<R>) -> Result<(), CopyFault>
         ensures ended { OnOk result (loader.new.ended ≡ true) }
+        // All that was left is hashed.
+        ensures hashed { OnOk result ((m : List ℕ) → loader.old.ended ≡ false
+            → Holds loader.old.hasher m → IfSome (prepend_known loader.old.line.items
+            (R.Read.remaining loader.old.reader)) (λ rest. Holds loader.new.hasher (m ++ rest))) }
     {
         // A `for`, since the prover asks that each loop ends.
         for _ in 0..u64::MAX {
@@ -107,7 +113,8 @@ fn names_of(alloc: Global, tables: &[TableCount]) -> Result<Vec<(Vec<u8>, Vec<u8
 
 /// The first GTID of the source of a copy with this executed set and this digest of the lines after its head.
 fn first_gtid(alloc: Global, executed: &GtidSet, digest: &[u8; 20]) -> Result<Gtid, CopyFault>
-    ensures { IfOk result (λ gtid. gtid.number ≡ 1) }
+    ensures first { IfOk result (λ gtid. gtid.number ≡ 1) }
+    ensures source { IfOk result (λ gtid. IsMadeOf executed.now gtid.source digest.now) }
 {
     let Ok(text) = text_of(alloc, executed) else {
         return Err(CopyFault::Memory);
@@ -140,7 +147,8 @@ impl Summary {
         description: Description,
         mut reader: R,
     ) -> Result<Summary, CopyFault>
-        ensures executed { IfOk result (λ made. HasHead made.executed (R.Read.remaining reader)) }
+        ensures source { IfOk result (λ made. HasCopySource made.executed made.first.source
+            (R.Read.remaining reader)) }
         ensures first { IfOk result (λ made. made.first.number ≡ 1) }
     {
         let executed = read_head(alloc, &mut reader)?;

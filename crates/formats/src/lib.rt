@@ -43,5 +43,5 @@ pub use notes::{Chosen, note_made, note_patterns};
 pub use output_format::{ENCODINGS, Encoding, FORMATS, Format, encoding_of, format_of};
 pub use progress::{Progress, pause};
 pub use set_text::text_of;
-pub use tallies::{Tallies, write_filter};
+pub use tallies::Tallies;
 pub use type_text::TypeText;

@@ -1,5 +1,8 @@
 //! What a command reports on standard error beside its lines, and ends as it does without it.
 
+ghost use Rattle.std.specs.Prelude.{◌≡◌};
+ghost use Rattle.binlog.specs.Filter.{admits};
+
 use crate::name::{Shown, write_table};
 use binlog::Follow;
 use std::alloc::{AllocError, Global};
@@ -53,18 +56,28 @@ impl Chosen {
     }
 
     /// Whether a row is of one of these tables, which then had one.
-    pub fn takes(&mut self, schema: &[u8], table: &[u8]) -> bool {
-        let names = self.tables.names();
-        if names.is_empty() {
-            return true;
-        }
-        let Ok(place) = names.binary_search_by(|name| compare(name, schema, table)) else {
+    pub fn takes(&mut self, schema: &[u8], table: &[u8]) -> bool
+        ensures takes { result ≡ admits self.old.tables schema.now table.now }
+        ensures same { self.new.tables ≡ self.old.tables }
+    {
+        if !self.tables.follows(schema, table) {
             return false;
+        }
+        self.note(schema, table);
+        true
+    }
+
+    /// Records that there was a row of a table, if that is named.
+    fn note(&mut self, schema: &[u8], table: &[u8])
+        ensures { self.new.tables ≡ self.old.tables }
+    {
+        let names = self.tables.names();
+        let Ok(place) = names.binary_search_by(|name| compare(name, schema, table)) else {
+            return;
         };
         if let Some(seen) = self.seen.get_mut(place) {
             *seen = true;
         }
-        true
     }
 
     /// Reports of which tables that are named there was no row.

@@ -16,7 +16,7 @@ struct Tally {
 }
 
 /// Writes `only` and the name of each table of a filter, or `all`.
-pub fn write_filter<W: Write>(filter: &Follow, out: &mut W) -> io::Result<()> {
+fn write_filter<W: Write>(filter: &Follow, out: &mut W) -> io::Result<()> {
     if filter.names().is_empty() {
         return writeln!(out, "all");
     }
@@ -45,6 +45,11 @@ impl<'o, W: Write> Tallies<'o, W> {
             last: None,
             out,
         }
+    }
+
+    /// Writes the filter of a database, before its rows are counted.
+    pub fn begin(&mut self, filter: &Follow) -> io::Result<()> {
+        write_filter(filter, self.out)
     }
 
     /// Counts a row of a table with this many copies. The rows of a table come one after the other.

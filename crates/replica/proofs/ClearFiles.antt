@@ -14,17 +14,15 @@ use Rattle.binlog.specs.Filter.{Names}
 use Rattle.store.specs.State.{Content}
 use Rattle.store.specs.declared.store.Store.{Store}
 use Rattle.store.specs.Store.{Holds, database}
-use Rattle.store.specs.Entering.{IsLeft}
 use Rattle.replica.specs.declared.clearing.ClearEnd.{ClearEnd}
 use Rattle.replica.specs.Noted.{Account, IsLeftOfNoted}
-use Rattle.replica.specs.File.{KeepsContent}
 use Rattle.replica.specs.NotedFile.{IsNotedOfFiles}
-use Rattle.replica.specs.Clear.{IsLeftOfClear}
-use Rattle.replica.specs.Over.{HasStayed}
+use Rattle.replica.specs.Clear.{ClearsTo, IsLeftOfClear}
 use Rattle.replica.specs.Clearing.{HasCleared, IsClearedSinceOpening}
 use Rattle.replica.specs.ClearFile.{ClearsFile}
 use Rattle.replica.proofs.Closed.{closed_with, may_hold}
 use Rattle.replica.proofs.ClearStore.{as_held}
+use Rattle.replica.proofs.StayedFiles.{ends_with}
 
 module _ {D : Type 0} (g : Ghosts D) (names : Names) (old : Content) (opened after : Store (FileStore D g) over_files) where
   pub cleared_into : (schema table source : List ℕ) (number : ℕ) (end : ClearEnd) (closed : Result (Files D) (Error × FileStore D g))
@@ -33,39 +31,12 @@ module _ {D : Type 0} (g : Ghosts D) (names : Names) (old : Content) (opened aft
       → IfOk closed (λ files. AreClean g files.log files.db → IsCopied after.conn files)
       → IfErr closed (λ e. IsClosed after.conn e.1 × (IsClean (view e.1) → FailsToClose after.conn e.1 e.0))
       → ClearsFile schema table source number names old (record { end = end; closed = closed })
-  cleared_into schema table source number end (Ok files) same opens clears copied failed = λ honest.
-      let copy = copied honest in
-      let o = opens copy.was_clean in
-      let h = subst (λ n. HasCleared over_files n schema table source number after old end) o.1 (clears copy.was_clean old o.0) in
-      let held = as_held over_files after h.new h.stays.executed h.stays.rest copy.was_open in
-      (h.new, h.clears, closed_with g names after (same ∙ o.1) held.0 h.new files copy held.1)
-  cleared_into schema table source number end (Err e) same opens clears copied failed = λ honest.
-      let quiet = failed.0.quiet in
-      let clean : HasCleanDisk (database over_files after) = omega (arith, quiet.clean, honest) in
-      let o = opens clean in
-      let h = subst (λ n. HasCleared over_files n schema table source number after old end) o.1 (clears clean old o.0) in
-      (h.new, h.clears, may_hold g names after (same ∙ o.1) h.stays.schema (IsLeftOfClear names schema table source number old end h.new) e.1 (λ trees may. quiet.outcomes trees may) h.stays.leaves)
-
-  -- a store that has stayed as it was
-  pub keeps_stayed : (only : Names) (content : Content) (closed : Result (Files D) (Error × FileStore D g))
-      → after.following ≡ opened.following → (HasCleanDisk (database over_files after) → Holds over_files opened old × (opened.following ≡ names))
-      → (HasCleanDisk (database over_files after) → Holds over_files opened old → HasStayed over_files after content (λ left. left ≡ content))
-      → IfOk closed (λ files. AreClean g files.log files.db → IsCopied after.conn files)
-      → IfErr closed (λ e. IsClosed after.conn e.1 × (IsClean (view e.1) → FailsToClose after.conn e.1 e.0))
-      → KeepsContent only names content closed
-  keeps_stayed only content (Ok files) same opens stays copied failed = λ honest.
-      let copy = copied honest in
-      let o = opens copy.was_clean in
-      let s = stays copy.was_clean o.0 in
-      let held = as_held over_files after content s.executed s.rest copy.was_open in
-      closed_with g names after (same ∙ o.1) held.0 content files copy held.1
-  keeps_stayed only content (Err e) same opens stays copied failed = λ honest trees may.
-      let quiet = failed.0.quiet in
-      let clean : HasCleanDisk (database over_files after) = omega (arith, quiet.clean, honest) in
-      let o = opens clean in
-      let s = stays clean o.0 in
-      let l = may_hold g names after (same ∙ o.1) s.schema (λ left. left ≡ content) e.1 (λ t m. quiet.outcomes t m) s.leaves trees may in
-      subst (λ c. IsLeft only names c trees) l.1 (l.2 only)
+  cleared_into schema table source number end closed same opens clears copied failed =
+      ends_with g names old opened after (ClearsTo names schema table source number old end) (IsLeftOfClear names schema table source number old end) closed same opens
+      (λ clean holds.
+      let h = subst (λ n. HasCleared over_files n schema table source number after old end) (opens clean).1 (clears clean old holds) in
+      (h.new, h.clears, h.stays))
+      copied failed
 
   -- what was reported to an observer
   pub noted_since : (t0 t1 : Account) (closed : Result (Files D) (Error × FileStore D g))

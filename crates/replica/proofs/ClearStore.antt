@@ -172,6 +172,25 @@ module _ {S : Type 0} (g : Ghosts S) (settled : (h : Held S) (db : Trees) → Is
       let all = since_through g false old first middle last t0 t1 t2 [] [] same (λ some. absurd (some refl)) opens led (λ some. absurd (some refl)) in
       led_as first last old t0 t2 all all.now_broken refl
 
+  -- a store whose rows were listed stays as it is
+  pub stays_listed : {V E : Type 0} (gives : V → Entry → Result (Unit {0}) E → V → Type 0) (before after : Store S g) (content : Content) (v w : V) (listed : Result (Unit {0}) (ListError E)) → after.following ≡ before.following
+      → Lists g gives content after v w listed → ((trees : Trees) → (state g after.conn).may_leave trees → AreOf (state g before.conn).now.schema before.following content trees) → HasStayed g after content (λ left. left ≡ content)
+  stays_listed gives before after content v w (Ok u) same it crash = stays_whole after content (λ left. left ≡ content) refl it.1
+  stays_listed gives before after content v w (Err (VisitorError cause)) same it crash = stays_whole after content (λ left. left ≡ content) refl it.1
+  stays_listed gives before after content v w (Err (StoreError (fault.Database e))) same it crash = record {
+    executed = it.1.executed;
+    rest = it.1.rest;
+    schema = (state g before.conn).now.schema;
+    leaves = record { each = λ trees may. (content, subst (λ n. AreOf (state g before.conn).now.schema n content trees) (sym same) (crash trees may), refl) };
+  }
+  stays_listed gives before after content v w (Err (StoreError fault.Memory)) same it crash = absurd it.1
+  stays_listed gives before after content v w (Err (StoreError fault.Damaged)) same it crash = absurd it.1
+  stays_listed gives before after content v w (Err (StoreError (fault.Layout n))) same it crash = absurd it.1
+  stays_listed gives before after content v w (Err (StoreError fault.Broken)) same it crash = absurd it.1
+  stays_listed gives before after content v w (Err (StoreError fault.Follows)) same it crash = absurd it.1
+  stays_listed gives before after content v w (Err (StoreError (fault.NoSuchRow at))) same it crash = absurd it.1
+  stays_listed gives before after content v w (Err (StoreError (fault.CountFull at))) same it crash = absurd it.1
+
   -- the rows of the table are listed
   lists_by : (schema table : List ℕ) (before after : Store S g) (content : Content) (v w : TableRows) (listed : Result (Unit {0}) (ListError NoMemory)) → v.changes ≡ [] → v.table.value.schema.items ≡ schema → v.table.value.table.items ≡ table → after.following ≡ before.following
       → Lists g TakesRow content after v w listed → ((trees : Trees) → (state g after.conn).may_leave trees → AreOf (state g before.conn).now.schema before.following content trees) → ListsDeletes g schema table content after (gathered_of listed w.changes)
@@ -185,16 +204,8 @@ module _ {S : Type 0} (g : Ghosts S) (settled : (h : Held S) (db : Trees) → Is
     },
     it.1,
   )
-  lists_by schema table before after content v w (Err (VisitorError cause)) empty schema_is table_is same it crash = (tt, stays_whole after content (λ left. left ≡ content) refl it.1)
-  lists_by schema table before after content v w (Err (StoreError (fault.Database e))) empty schema_is table_is same it crash = (
-    tt,
-    record {
-      executed = it.1.executed;
-      rest = it.1.rest;
-      schema = (state g before.conn).now.schema;
-      leaves = record { each = λ trees may. (content, subst (λ n. AreOf (state g before.conn).now.schema n content trees) (sym same) (crash trees may), refl) };
-    },
-  )
+  lists_by schema table before after content v w (Err (VisitorError cause)) empty schema_is table_is same it crash = (tt, stays_listed TakesRow before after content v w (Err (VisitorError cause)) same it crash)
+  lists_by schema table before after content v w (Err (StoreError (fault.Database e))) empty schema_is table_is same it crash = (tt, stays_listed TakesRow before after content v w (Err (StoreError (fault.Database e))) same it crash)
   lists_by schema table before after content v w (Err (StoreError fault.Memory)) empty schema_is table_is same it crash = absurd it.1
   lists_by schema table before after content v w (Err (StoreError fault.Damaged)) empty schema_is table_is same it crash = absurd it.1
   lists_by schema table before after content v w (Err (StoreError (fault.Layout n))) empty schema_is table_is same it crash = absurd it.1

@@ -197,9 +197,9 @@ module _ {D : Type 0} (g : Ghosts D) (names : Names) (old : Content) (opened aft
       left_there (subst (λ (s : Store (FileStore D g) over_files). HasCleanDisk (database over_files s)) stayed clean) trees (subst (λ (s : Store (FileStore D g) over_files). (database over_files s).may_leave trees) stayed (quiet.outcomes trees may))
 
   -- what a crash leaves of a store that has failed or not
-  left_since : SeenMayStay g → (t0 t1 : Account) (ends : List Ended) → (a : IsLedSinceOpening over_files opened after false old t0 t1 ends)
+  left_since : SeenMayStay g → (begin : Content) (t0 t1 : Account) (ends : List Ended) → (a : IsLedSinceOpening over_files opened after false begin t0 t1 ends)
       → (schema : Schema) × LeavesOnly over_files schema after (IsLeftOfNoted opened.following a.noted_of.noted_of.notices a.new)
-  left_since still t0 t1 ends a = elim (cases_Bool a.now_broken) [
+  left_since still begin t0 t1 ends a = elim (cases_Bool a.now_broken) [
     | inl failed ↦ a.leaves refl failed
     | inr whole ↦ (
       (file_state after.conn).now.schema,
@@ -208,26 +208,26 @@ module _ {D : Type 0} (g : Ghosts D) (names : Names) (old : Content) (opened aft
     )
   ]
 
-  -- what was reported to an observer leads to what closed files hold
-  pub noted_of_files : SeenMayStay g → (t0 t1 : Account) (ends : List Ended) (closed : Result (Files D) (Error × FileStore D g))
+  -- what was reported to an observer leads from a content, as that from before or the one with a set added, to what closed files hold
+  pub noted_of_files : SeenMayStay g → (begin : Content) (t0 t1 : Account) (ends : List Ended) (closed : Result (Files D) (Error × FileStore D g))
       → after.following ≡ opened.following → (HasCleanDisk (database over_files after) → Holds over_files opened old × (opened.following ≡ names))
-      → (HasCleanDisk (database over_files after) → (was : Bool) (content : Content) → HoldsAs over_files was content opened → IsLedSinceOpening over_files opened after was content t0 t1 ends)
+      → (HasCleanDisk (database over_files after) → Holds over_files opened old → IsLedSinceOpening over_files opened after false begin t0 t1 ends)
       → IfOk closed (λ files. AreClean g files.log files.db → IsCopied after.conn files)
       → IfErr closed (λ e. IsClosed after.conn e.1 × (IsClean (view e.1) → FailsToClose after.conn e.1 e.0))
-      → IsNotedOfFiles names old t0 t1 ends closed
-  noted_of_files still t0 t1 ends (Ok files) same opens notes copied failed = λ honest.
+      → IsNotedOfFiles names begin t0 t1 ends closed
+  noted_of_files still begin t0 t1 ends (Ok files) same opens notes copied failed = λ honest.
       let copy = copied honest in
       let o = opens copy.was_clean in
-      let a = notes copy.was_clean false old o.0 in
-      (a.new, closed_with g names after (same ∙ o.1) a.now_broken a.new files copy a.holds, subst (λ n. IsNotedSinceOpening n old a.new t0 t1 ends) o.1 a.noted_of)
-  noted_of_files still t0 t1 ends (Err e) same opens notes copied failed = λ honest.
+      let a = notes copy.was_clean o.0 in
+      (a.new, closed_with g names after (same ∙ o.1) a.now_broken a.new files copy a.holds, subst (λ n. IsNotedSinceOpening n begin a.new t0 t1 ends) o.1 a.noted_of)
+  noted_of_files still begin t0 t1 ends (Err e) same opens notes copied failed = λ honest.
       let quiet = failed.0.quiet in
       let clean : HasCleanDisk (database over_files after) = omega (arith, quiet.clean, honest) in
       let o = opens clean in
-      let a = notes clean false old o.0 in
-      let l = left_since still t0 t1 ends a in
-      let it : (since : IsNotedSinceOpening names old a.new t0 t1 ends) × LeavesOnly over_files l.0 after (IsLeftOfNoted names since.noted_of.notices a.new) =
-      subst (λ n. (since : IsNotedSinceOpening n old a.new t0 t1 ends) × LeavesOnly over_files l.0 after (IsLeftOfNoted n since.noted_of.notices a.new)) o.1 (a.noted_of, l.1) in
+      let a = notes clean o.0 in
+      let l = left_since still begin t0 t1 ends a in
+      let it : (since : IsNotedSinceOpening names begin a.new t0 t1 ends) × LeavesOnly over_files l.0 after (IsLeftOfNoted names since.noted_of.notices a.new) =
+      subst (λ n. (since : IsNotedSinceOpening n begin a.new t0 t1 ends) × LeavesOnly over_files l.0 after (IsLeftOfNoted n since.noted_of.notices a.new)) o.1 (a.noted_of, l.1) in
       (a.new, it.0, may_hold g names after (same ∙ o.1) l.0 (IsLeftOfNoted names it.0.noted_of.notices a.new) e.1 (λ trees may. quiet.outcomes trees may) it.1)
 
 -- where the observer waits for nothing more

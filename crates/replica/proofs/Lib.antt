@@ -49,3 +49,5 @@ pub mod FeedLosses
 pub mod Cleared
 pub mod ClearStore
 pub mod ClearFiles
+pub mod StayedFiles
+pub mod AdoptStore

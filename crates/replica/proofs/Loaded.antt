@@ -4,6 +4,7 @@ use Rattle.std.specs.FinSet as set
 use Rattle.sqlite_disk.specs.declared.Disk.{Ghosts}
 use Rattle.sqlite_disk.specs.declared.Files.{Files}
 use Rattle.sqlite_wal.specs.Reads.{AreClean}
+use Rattle.sqlite_wal.proofs.LogLemmas.{SeenMayStay}
 use Rattle.sqlite_trees.specs.declared.store.Store.{Ghosts as StoreGhosts}
 use Rattle.sqlite_trees.specs.Tree.{Trees}
 use Rattle.sqlite_trees.specs.View.{IsClean}
@@ -17,6 +18,7 @@ use Rattle.sqlite.specs.Closing.{IsCopied}
 use Rattle.gtid.specs.Identifier.{Id, Ids}
 use Rattle.binlog.specs.Filter.{Names}
 use Rattle.store.specs.State.{Content}
+use Rattle.store.specs.Changes.{adopted}
 use Rattle.store.specs.Faults.{IsFailure}
 use Rattle.store.specs.declared.fault.StoreFault.{StoreFault}
 use Rattle.store.specs.declared.fault.StoreFault.TheVariants as fault
@@ -31,16 +33,14 @@ use Rattle.replica.specs.declared.loading.Unloadable.{Unloadable}
 use Rattle.replica.specs.Given.{Supply}
 use Rattle.replica.specs.Copies.{IsUnloadable, MayNotLoad, with_first}
 use Rattle.replica.specs.declared.changing.ChangeEnd.TheVariants.{NotAdopted}
-use Rattle.replica.specs.Noted.{Account, IsLedTo}
-use Rattle.replica.specs.Change.{begun_with}
+use Rattle.replica.specs.Noted.{Account}
 use Rattle.replica.specs.Over.{HasStayed}
 use Rattle.replica.specs.Changing.{HasChanged}
 use Rattle.replica.specs.Loading.{JudgesCopy, HasLoaded, IsLedByLoad}
 use Rattle.replica.specs.LoadFile.{LoadsTo, IsNotedOfLoad}
-use Rattle.replica.proofs.Closed.{clean_before_closing}
-use Rattle.replica.proofs.ClearFiles.{keeps_stayed}
-use Rattle.replica.proofs.Changed.{changed_into, noted_from}
-use Rattle.replica.proofs.Noted.{nothing_noted, no_notice}
+use Rattle.replica.proofs.Closed.{clean_before_closing, noted_of_files}
+use Rattle.replica.proofs.StayedFiles.{keeps_stayed}
+use Rattle.replica.proofs.Changed.{changed_into}
 
 module _ {S : Type 0} (g : StoreGhosts S) where
   pub keeps_of : (store : Store S g) (content : Content) → Holds g store content → Keeps g store content
@@ -93,9 +93,6 @@ module _ {S : Type 0} (g : StoreGhosts S) where
     leaves = record { each = λ trees may. (old, subst (λ n. AreOf (state g before.conn).now.schema n old trees) (sym later) (crash trees may), inl refl) };
   }
 
-  pub led_unloaded : (before after : Store S g) (old : Content) (account : Account) → Holds g after old → IsLedTo g before after false old account account []
-  led_unloaded before after old account holds = record { now_broken = false; new = old; holds = holds; noted_of = nothing_noted before.following old account account no_notice }
-
 module _ {D : Type 0} (g : Ghosts D) (names : Names) (old : Content) (opened after : Store (FileStore D g) over_files) where
   pub loaded_into : {E : Type 0} (only : Names) (left : Supply) (ids : Ids) (first : Id) (tables : Names) (applied : ℕ) (end : LoadEnd E) (closed : Result (Files D) (Error × FileStore D g))
       → after.following ≡ opened.following → (HasCleanDisk (database over_files after) → Holds over_files opened old × (opened.following ≡ names))
@@ -118,11 +115,11 @@ module _ {D : Type 0} (g : Ghosts D) (names : Names) (old : Content) (opened aft
     keeps_stayed g names old opened after only old closed same opens (λ clean holds. (loads clean old holds).1) copied failed,
   )
 
-  pub noted_of_load : {E : Type 0} (ids : Ids) (first : Id) (t0 t1 : Account) (end : LoadEnd E) (closed : Result (Files D) (Error × FileStore D g))
+  pub noted_of_load : SeenMayStay g → {E : Type 0} (ids : Ids) (first : Id) (t0 t1 : Account) (end : LoadEnd E) (closed : Result (Files D) (Error × FileStore D g))
       → after.following ≡ opened.following → (HasCleanDisk (database over_files after) → Holds over_files opened old × (opened.following ≡ names))
       → (HasCleanDisk (database over_files after) → Holds over_files opened old → IsLedByLoad over_files opened after old ids first t0 t1 end)
       → IfOk closed (λ files. AreClean g files.log files.db → IsCopied after.conn files)
       → IfErr closed (λ e. IsClosed after.conn e.1 × (IsClean (view e.1) → FailsToClose after.conn e.1 e.0))
       → IsNotedOfLoad names old ids first t0 t1 end closed
-  noted_of_load ids first t0 t1 (Changed end) closed same opens notes copied failed = noted_from g names old opened after (begun_with end old (with_first ids first)) t0 t1 closed same opens notes copied failed
-  noted_of_load ids first t0 t1 (Refused why) closed same opens notes copied failed = tt
+  noted_of_load still ids first t0 t1 (Changed end) closed same opens notes copied failed = λ begun. noted_of_files g names old opened after still (adopted old (with_first ids first)) t0 t1 [] closed same opens (λ clean holds. notes clean holds begun) copied failed
+  noted_of_load still ids first t0 t1 (Refused why) closed same opens notes copied failed = tt

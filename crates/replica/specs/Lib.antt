@@ -37,3 +37,5 @@ pub mod Copied
 pub mod Clear
 pub mod Clearing
 pub mod ClearFile
+pub mod ListFile
+pub mod AdoptFile

@@ -1,5 +1,5 @@
 -- A database file that a first copy of tables was loaded into.
-use Rattle.std.specs.Prelude.{ℕ, Result}
+use Rattle.std.specs.Prelude.{ℕ, [], Result}
 use Rattle.sqlite_disk.specs.declared.Disk.{Ghosts}
 use Rattle.sqlite_disk.specs.declared.Files.{Files}
 use Rattle.sqlite_store.specs.declared.store.FileStore.{FileStore}
@@ -7,14 +7,15 @@ use Rattle.sqlite.specs.declared.error.Error.{Error}
 use Rattle.gtid.specs.Identifier.{Id, Ids}
 use Rattle.binlog.specs.Filter.{Names}
 use Rattle.store.specs.State.{Content}
+use Rattle.store.specs.Changes.{adopted}
 use Rattle.replica.specs.declared.loading.LoadEnd.{LoadEnd}
 use Rattle.replica.specs.declared.loading.LoadEnd.TheVariants.{Changed, Refused}
 use Rattle.replica.specs.declared.loaded_file.LoadedFile.{LoadedFile}
 use Rattle.replica.specs.Given.{Supply}
 use Rattle.replica.specs.Noted.{Account}
-use Rattle.replica.specs.NotedFile.{IsNotedOfChange}
+use Rattle.replica.specs.NotedFile.{IsNotedOfFiles}
 use Rattle.replica.specs.File.{IsCleanlyClosed, KeepsContent}
-use Rattle.replica.specs.Change.{begun_with, MayStop, UnlessAdopted}
+use Rattle.replica.specs.Change.{IsAdopted, MayStop, UnlessAdopted}
 use Rattle.replica.specs.ChangeFile.{ChangesFile}
 use Rattle.replica.specs.Copies.{MayLoad, MayNotLoad, with_first}
 
@@ -30,9 +31,9 @@ LoadsTo only left names old ids first tables applied (Refused why) closed =
 abbrev pub LoadsFile : {D : Type 0} {g : Ghosts D} {E : Type 0} → Names → Supply → Names → Content → Ids → Id → Names → LoadedFile E D g → Type 0
 LoadsFile only left names old ids first tables done = LoadsTo only left names old ids first tables done.applied done.end done.closed
 
--- What was reported leads from the content with the set added to the one that the closed files hold; of a copy that is refused nothing is.
+-- What was reported since the set was added leads from the content with it to the one that the closed files hold.
 abbrev pub IsNotedOfLoad : {D : Type 0} {g : Ghosts D} {E : Type 0} → Names → Content → Ids → Id → Account → Account → LoadEnd E → Result (Files D) (Error × FileStore D g) → Type 0
-IsNotedOfLoad names old ids first was is (Changed end) closed = IsNotedOfChange names (begun_with end old (with_first ids first)) was is closed
+IsNotedOfLoad names old ids first was is (Changed end) closed = IsAdopted end → IsNotedOfFiles names (adopted old (with_first ids first)) was is [] closed
 IsNotedOfLoad names old ids first was is (Refused why) closed = Unit {0}
 
 -- what holds if no set was adopted

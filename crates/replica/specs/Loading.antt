@@ -5,6 +5,7 @@ use Rattle.sqlite_trees.specs.declared.store.Store.{Ghosts}
 use Rattle.gtid.specs.Identifier.{Id, Ids}
 use Rattle.binlog.specs.Filter.{Names}
 use Rattle.store.specs.State.{Content}
+use Rattle.store.specs.Changes.{adopted}
 use Rattle.store.specs.Listing.{Entry}
 use Rattle.store.specs.declared.store.Store.{Store}
 use Rattle.store.specs.Store.{Holds, Keeps}
@@ -15,8 +16,8 @@ use Rattle.replica.specs.declared.loading.LoadEnd.TheVariants.{Changed, Refused}
 use Rattle.replica.specs.declared.loading.Unloadable.{Unloadable}
 use Rattle.replica.specs.Given.{Supply}
 use Rattle.replica.specs.Over.{HasStayed}
-use Rattle.replica.specs.Noted.{Account, IsLedTo}
-use Rattle.replica.specs.Change.{begun_with}
+use Rattle.replica.specs.Noted.{Account, IsLedSinceOpening}
+use Rattle.replica.specs.Change.{IsAdopted}
 use Rattle.replica.specs.Changing.{HasChanged}
 use Rattle.replica.specs.Copies.{MayLoad, MayNotLoad, with_first}
 
@@ -38,7 +39,7 @@ module _ {S : Type 0} (g : Ghosts S) where
   HasLoaded names store old ids first tables left applied (Changed end) = MayLoad names old ids first tables × HasChanged g names store old (with_first ids first) left applied end
   HasLoaded names store old ids first tables left applied (Refused why) = MayNotLoad names old ids first tables why × HasStayed g store old (λ left. left ≡ old)
 
-  -- What was reported leads from the content with the set added to the one that the store holds; of a copy that is refused nothing is.
+  -- What was reported since the set was added leads from the content with it to the one that the store holds.
   abbrev pub IsLedByLoad : {E : Type 0} → Store S g → Store S g → Content → Ids → Id → Account → Account → LoadEnd E → Type 0
-  IsLedByLoad before after old ids first was is (Changed end) = IsLedTo g before after false (begun_with end old (with_first ids first)) was is []
+  IsLedByLoad before after old ids first was is (Changed end) = IsAdopted end → IsLedSinceOpening g before after false (adopted old (with_first ids first)) was is []
   IsLedByLoad before after old ids first was is (Refused why) = Unit {0}

@@ -13,7 +13,7 @@ use Rattle.store.specs.State.{Content}
 use Rattle.replica.specs.declared.end.Ended.{Ended}
 use Rattle.replica.specs.File.{AreClosedWith}
 use Rattle.replica.specs.FollowFile.{MayHold}
-use Rattle.replica.specs.Noted.{Account, IsLeftOfNoted, IsNotedOf, IsNotedSinceOpening, HasReached}
+use Rattle.replica.specs.Noted.{Account, IsLeftOfNoted, IsNotedSinceOpening, HasReached}
 
 -- The closed files hold a content of this kind; where they could not be closed, the database had come to one.
 abbrev pub ComeTo : {D : Type 0} {g : Ghosts D} → Names → (Content → Type 0) → Result (Files D) (Error × FileStore D g) → Type 0
@@ -29,10 +29,6 @@ IsNotedOfFiles {D} {g} names old was is ends closed = MatchResult closed
     (λ files. AreClean g files.log files.db → (new : Content) × AreClosedWith g names new files × IsNotedSinceOpening names old new was is ends)
     (λ e. IsClean (view e.1) → (new : Content) × (since : IsNotedSinceOpening names old new was is ends)
     × MayHold names e.1 (IsLeftOfNoted names since.noted_of.notices new))
-
--- The same of a change, where nothing is reported if its set is not adopted.
-abbrev pub IsNotedOfChange : {D : Type 0} {g : Ghosts D} → Names → Content → Account → Account → Result (Files D) (Error × FileStore D g) → Type 0
-IsNotedOfChange names old was is closed = ComeTo names (λ new. IsNotedOf names old new was is []) closed
 
 -- The closed files hold the first content in which all of these transactions are executed.
 abbrev pub HaveReached : {D : Type 0} {g : Ghosts D} → Names → Content → Ids → Result (Files D) (Error × FileStore D g) → Type 0

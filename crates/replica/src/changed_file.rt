@@ -6,9 +6,9 @@ ghost use Rattle.binlog.specs.Filter.{Names};
 ghost use Rattle.store.specs.State.{Content};
 ghost use Rattle.store.specs.Changes.{adopted};
 ghost use Rattle.store.specs.Entering.{wanted_of, names_for};
-ghost use Rattle.replica.specs.NotedFile.{IsNotedOfChange};
+ghost use Rattle.replica.specs.NotedFile.{IsNotedOfFiles};
 ghost use Rattle.replica.specs.File.{FilesHold, IsTurnedAway, ClosesAs, KeepsContent};
-ghost use Rattle.replica.specs.Change.{begun_with, IsAdopted, UnlessAdopted, MayStop};
+ghost use Rattle.replica.specs.Change.{IsAdopted, UnlessAdopted, MayStop};
 ghost use Rattle.replica.specs.ChangeFile.{ChangesFile};
 
 use crate::changing::{ChangeEnd, change};
@@ -58,11 +58,12 @@ pub fn change_file<P: Start, I: Deliveries + Drop, W: Observer>(
         done.closed) }
     // It stops for the observer only if that has stopped, or waits for nothing.
     ensures asked { IfOk result (λ done. MayStop done.end (W.account observer.new)) }
-    // What was reported to the observer leads from the content with the set added to the one that the closed files hold.
-    ensures notes { IfOk result (λ done. (names : Names) (content : Content)
+    // If the set was added, what was reported to the observer leads from the content with it to the one that the closed files
+    // hold. Files that could not be closed are left with that content, or with one transaction more, which was reported before it.
+    ensures notes { IfOk result (λ done. IsAdopted done.end → (names : Names) (content : Content)
         → FilesHold (names_for (wanted_of only.entry)) names content (image_at P.Start)
-        → IsNotedOfChange names (begun_with done.end content gtids.now)
-        (W.account observer.old) (W.account observer.new) done.closed) }
+        → IsNotedOfFiles names (adopted content gtids.now)
+        (W.account observer.old) (W.account observer.new) [] done.closed) }
     // If the set was not added, nothing was reported.
     ensures unreported { IfOk result (λ done. UnlessAdopted done.end
         (observer.new ≡ observer.old)) }

@@ -6,8 +6,8 @@ ghost use Rattle.gtid.specs.Identifier.{Ids};
 ghost use Rattle.store.specs.State.{Content};
 ghost use Rattle.store.specs.Changes.{adopted};
 ghost use Rattle.store.specs.Store.{Holds, database, names_of};
-ghost use Rattle.replica.specs.Noted.{IsLedTo};
-ghost use Rattle.replica.specs.Change.{begun_with, IsAdopted, UnlessAdopted, MayStop};
+ghost use Rattle.replica.specs.Noted.{IsLedSinceOpening};
+ghost use Rattle.replica.specs.Change.{IsAdopted, UnlessAdopted, MayStop};
 ghost use Rattle.replica.specs.Changing.{TakesNext, HasChanged};
 ghost use Rattle.replica.specs.Keeps.{KeepsStore, KeepsObserved};
 
@@ -104,8 +104,8 @@ pub(crate) fn change<S: Alter, I: Deliveries, W: Observer>(
         → Holds S.Store store.old old → HasChanged S.Store (names_of S.Store store.old)
         store.new old gtids.now (I.supply deliveries.old) result.0 result.1 }
     ensures notes { HasCleanDisk (database S.Store store.new) → (old : Content)
-        → Holds S.Store store.old old → IsLedTo S.Store store.old store.new false
-        (begun_with result.1 old gtids.now)
+        → Holds S.Store store.old old → IsAdopted result.1
+        → IsLedSinceOpening S.Store store.old store.new false (adopted old gtids.now)
         (W.account observer.old) (W.account observer.new) [] }
     ensures asked { MayStop result.1 (W.account observer.new) }
     ensures unreported { UnlessAdopted result.1 (observer.new ≡ observer.old) }

@@ -10,7 +10,8 @@
 //! Over a database file, [`replay`] opens it, reads a list of [`Capture`]s, each a connection from a reader, and closes
 //! it, and [`follow_file`] does so with a source that is followed over a stream of two directions, such as a socket
 //! ([`Duplex`]); [`change_file`] applies transactions that come from no connection ([`Deliveries`]), [`load_file`] those of
-//! a [`FirstCopy`] of tables, if it may be loaded, and [`clear_file`] takes all rows of one table out. [`open_file`] and
+//! a [`FirstCopy`] of tables, if it may be loaded, [`clear_file`] takes all rows of one table out, [`adopt_file`] adds a set
+//! to the executed one, and [`list_file`] reads the set, the filter and the rows ([`Lister`]). [`open_file`] and
 //! [`close_file`] are their first and their last step. An [`Observer`]
 //! is called with what is read and applied, and may stop it; [`Until`] is one that stops once nothing of a set of GTIDs is
 //! missing. Over a store, [`run`] reads a list of connections that are in memory, one after the other, [`read_stream`] one
@@ -25,6 +26,7 @@
 //! how it ends (`Conn.antt`, `End.antt`), and the bytes due in reply (`Sent.antt`). [`laws`] states what follows.
 #![tactic(auto)]
 
+mod adopted_file;
 mod captures;
 mod changed_file;
 mod changing;
@@ -43,6 +45,7 @@ mod file_pair;
 mod followed_file;
 mod following;
 pub mod laws;
+mod listed_file;
 mod loaded_file;
 mod loading;
 mod login;
@@ -55,6 +58,7 @@ mod replaying;
 mod session;
 mod until;
 
+pub use adopted_file::{AdoptedFile, adopt_file};
 pub use captures::{Capture, Halt};
 pub use changed_file::{ChangedFile, change_file};
 pub use changing::ChangeEnd;
@@ -70,6 +74,7 @@ pub use file::{Unopened, close_file, open_file};
 pub use file_pair::NotOpened;
 pub use followed_file::{FollowedFile, follow_file};
 pub use following::{PIECE, follow, follow_observed};
+pub use listed_file::{ListedFile, Lister, list_file};
 pub use loaded_file::{LoadedFile, load_file};
 pub use loading::{FirstCopy, LoadEnd, QualifiedName, Unloadable};
 pub use observer::{Observer, Unobserved};

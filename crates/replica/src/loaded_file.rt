@@ -58,7 +58,8 @@ pub fn load_file<P: Start, I: Deliveries + Drop, W: Observer>(
         done.closed) }
     // It stops for the observer only if that has stopped, or waits for nothing.
     ensures asked { IfOk result (λ done. MayStopLoad done.end (W.account observer.new)) }
-    // What was reported to the observer leads from the content with the set added to the one that the closed files hold.
+    // If the set was added, what was reported to the observer leads from the content with it to the one that the closed files
+    // hold. Files that could not be closed are left with that content, or with one transaction more, which was reported before it.
     ensures notes { IfOk result (λ done. (names : Names) (content : Content)
         → FilesHold (names_for (wanted_of only.entry)) names content (image_at P.Start)
         → IsNotedOfLoad names content copy.entry.gtids.now (id copy.entry.first)

@@ -21,24 +21,22 @@ pub struct Export {
     pub chosen: Chosen,
 }
 
-impl Export {
-    /// Reports of which tables that are made a database keeps no rows, since its filter leaves them out.
-    pub fn note_left_out<W: Write>(
-        &self,
-        db: &str,
-        following: &Follow,
-        out: &mut W,
-    ) -> io::Result<()> {
-        for table in self.tables.all() {
-            let (schema, name) = (table.schema.as_bytes(), table.name.as_bytes());
-            if !following.follows(schema, name) {
-                write!(out, "mrep: {}: it does not keep the rows of ", Shown(db))?;
-                write_table(schema, name, out)?;
-                out.write_all(b"\n")?;
-            }
+/// Reports of which tables that are made a database keeps no rows, since its filter leaves them out.
+pub fn note_left_out<W: Write>(
+    tables: &Tables,
+    db: &str,
+    following: &Follow,
+    out: &mut W,
+) -> io::Result<()> {
+    for table in tables.all() {
+        let (schema, name) = (table.schema.as_bytes(), table.name.as_bytes());
+        if !following.follows(schema, name) {
+            write!(out, "mrep: {}: it does not keep the rows of ", Shown(db))?;
+            write_table(schema, name, out)?;
+            out.write_all(b"\n")?;
         }
-        Ok(())
     }
+    Ok(())
 }
 
 /// Makes tables and adds rows to those that are asked for, in one transaction of a database.

@@ -38,7 +38,7 @@ mod tsv;
 
 pub use change_feed::{Feed, FeedEntry, OUTPUT};
 pub use described_tables::DescribedTables;
-pub use exported::{Export, ExportedRows};
+pub use exported::{Export, ExportedRows, note_left_out};
 pub use misfit::{Misfit, RowError};
 pub use query::write_query;
 pub use refused::write_refused;

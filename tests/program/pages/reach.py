@@ -16,7 +16,9 @@ root = os.path.abspath(sys.argv[1])
 # The functions that have a `HostRuntime`, and what each gives it to.
 FUNCTIONS = {
     'crates/replica/src/changed_file.rt': {'change_file': ['open_file']},
+    'crates/replica/src/adopted_file.rt': {'adopt_file': ['open_file']},
     'crates/replica/src/cleared_file.rt': {'clear_file': ['open_file']},
+    'crates/replica/src/listed_file.rt': {'list_file': ['open_file']},
     'crates/replica/src/file.rt': {'open_file': ['RandomState::new', 'open_pair', 'connect_to']},
     'crates/replica/src/file_connection.rt': {
         # It reads how long the file is and the size of its pages.

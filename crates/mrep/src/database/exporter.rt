@@ -11,7 +11,7 @@ use std::alloc::Global;
 use std::io;
 use std::io::Write;
 use store::{ListError, Listed, Store, StoreFault, Visitor};
-use typed_rows::{Export, ExportedRows, TableError};
+use typed_rows::{Export, ExportedRows, TableError, note_left_out};
 
 /// Which tables are made, and where.
 #[derive(Drop)]
@@ -62,7 +62,7 @@ fn note_emptiness<S: Alter, W: Write>(
     if store.executed().is_subset(&GtidSet::new(alloc)) {
         return writeln!(out, "mrep: {}: it has no transaction", Shown(name));
     }
-    export.note_left_out(name, store.following(), out)
+    note_left_out(&export.tables, name, store.following(), out)
 }
 
 /// Makes tables and adds the rows to them. The names are those of the database and of the file that is made.

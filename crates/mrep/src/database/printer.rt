@@ -1,7 +1,7 @@
 //! The rows of a database, in one of the formats, and how many there are of each table.
 
 use crate::report::failure::{Failure, of_row};
-use formats::{Chosen, Encoding, Format, Records, Tallies, write_filter, write_object, write_row};
+use formats::{Chosen, Encoding, Format, Records, Tallies, write_object, write_row};
 use sqlite::Alter;
 use std::alloc::Global;
 use std::io;
@@ -209,10 +209,10 @@ pub fn print_tallies<'a, S: Alter, W: Write>(
     store: &mut Store<S>,
     out: &mut W,
 ) -> Result<(), Failure<'a>> {
-    write_filter(store.following(), out)?;
     let mut counts = Counts {
         tallies: Tallies::new(alloc, out),
     };
+    counts.tallies.begin(store.following())?;
     list(name, store, &mut counts)?;
     counts.tallies.write_last()?;
     Ok(())

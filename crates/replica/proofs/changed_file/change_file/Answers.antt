@@ -1,10 +1,9 @@
-use Rattle.std.proofs.Common.{inl, refl}
+use Rattle.std.proofs.Common.{[], inl, refl}
 use Rattle.sqlite_wal.specs.Files.{image_at}
 use Rattle.store.specs.Changes.{adopted}
 use Rattle.store.specs.Entering.{wanted_of, names_for}
-use Rattle.replica.specs.Change.{begun_with}
-use Rattle.replica.proofs.Closed.{closes_as}
-use Rattle.replica.proofs.Changed.{changed_into, keeps_whole, noted_from}
+use Rattle.replica.proofs.Closed.{closes_as, noted_of_files}
+use Rattle.replica.proofs.Changed.{changed_into, keeps_whole}
 use Rattle.replica.proofs.changed_file.change_file.Goals as goal
 
 pub returns-clause-changes : goal.returns-clause-changes
@@ -25,7 +24,7 @@ returns-clause-keeps g c on begun names content files =
     (λ clean holds. c.change-applied.ensures.heeds clean content holds on begun) c.close_file-closed.ensures.copied c.close_file-closed.ensures.err
 
 pub returns-clause-notes : goal.returns-clause-notes
-returns-clause-notes g c names content files =
-    noted_from _ names content c.in_ok-store.store c.change-applied.new.store (begun_with c.change-applied.result.1 content c.args.gtids.now) (g.W.Observer.account c.args.observer.now) (g.W.Observer.account c.change-applied.new.observer) c.close_file-closed.result
+returns-clause-notes g c begun names content files =
+    noted_of_files _ names content c.in_ok-store.store c.change-applied.new.store (λ file. inl refl) (adopted content c.args.gtids.now) (g.W.Observer.account c.args.observer.now) (g.W.Observer.account c.change-applied.new.observer) [] c.close_file-closed.result
     c.change-applied.ensures.keeps.following (λ clean. let o = c.in_ok-store.ensures.opens (c.change-applied.ensures.keeps.clean clean) names content files in (o.0, o.1))
-    (λ clean holds. c.change-applied.ensures.notes clean content holds) c.close_file-closed.ensures.copied c.close_file-closed.ensures.err
+    (λ clean holds. c.change-applied.ensures.notes clean content holds begun) c.close_file-closed.ensures.copied c.close_file-closed.ensures.err

@@ -1,12 +1,10 @@
 use Rattle.std.proofs.Common.{[], false, refl, sym, subst}
 use Rattle.store.specs.Changes.{adopted}
 use Rattle.store.specs.Store.{Holds}
-use Rattle.replica.specs.Noted.{IsLedTo}
 use Rattle.replica.specs.Changing.{HasChanged}
-use Rattle.replica.proofs.Noted.{led_from, led_through}
-use Rattle.replica.proofs.Changed.{begun_is, unless_begun, led_likewise, led_unadopted}
+use Rattle.replica.proofs.Changed.{unless_begun, since_likewise}
 use Rattle.replica.proofs.Taking.{not_adopted}
-use Rattle.replica.proofs.Keeps.{store_then}
+use Rattle.replica.proofs.Keeps.{store_then, since_opened, since_then}
 use Rattle.replica.proofs.changing.change.Goals as goal
 
 pub returns-in-Ok-clause-changes : goal.returns-in-Ok-clause-changes
@@ -20,18 +18,14 @@ returns-in-Err-clause-changes g c clean old holds =
     not_adopted g.S.Store c.args.store.now c.adopt.new.self old c.args.gtids.now (g.I.Deliveries.supply c.args.deliveries.now) c.in-Err.fault c.adopt.ensures.following (c.in-Err.ensures.adopts clean old holds) (c.in-Err.ensures.crash clean old holds)
 
 pub returns-in-Ok-clause-notes : goal.returns-in-Ok-clause-notes
-returns-in-Ok-clause-notes g c clean old holds =
-    let store = c.adopt.new.self in
-    let begin = adopted old c.args.gtids.now in
-    let whole : Holds g.S.Store store begin = c.in-Ok.ensures.adopts (c.apply_all.ensures.keeps.store.clean clean) old holds in
-    begun_is c.apply_all.result.1 old c.args.gtids.now c.apply_all.ensures.begun (λ b. IsLedTo g.S.Store c.args.store.now c.apply_all.new.store false b (g.W.Observer.account c.args.observer.now) (g.W.Observer.account c.apply_all.new.observer) [])
-    (led_likewise g.S.Store c.args.store.now store c.apply_all.new.store false begin (g.W.Observer.account c.args.observer.now) (g.W.Observer.account c.apply_all.new.observer) [] c.adopt.ensures.following
-    ((led_through g.S.Store false begin store store c.apply_all.new.store (g.W.Observer.account c.args.observer.now) (g.W.Observer.account c.opened.new.self) (g.W.Observer.account c.apply_all.new.observer) [] [] refl (λ some. absurd (some refl))
-    (led_from g.S.Store false begin store c.executed.result.now (g.W.Observer.account c.args.observer.now) (g.W.Observer.account c.opened.new.self) whole (c.executed.ensures.value false begin whole) c.opened.ensures.noticed)
-    (λ is now held. c.apply_all.ensures.keeps.notes clean is now held)).led))
+returns-in-Ok-clause-notes g c clean old holds begun =
+    let whole : Holds g.S.Store c.adopt.new.self (adopted old c.args.gtids.now) = c.in-Ok.ensures.adopts (c.apply_all.ensures.keeps.store.clean clean) old holds in
+    let since = since_then g.S.Store (λ some. absurd (some refl)) refl (λ some. absurd (some refl)) (since_opened g.S.Store c.executed.ensures.value c.opened.ensures.noticed) c.apply_all.ensures.keeps in
+    since_likewise g.S.Store c.args.store.now c.adopt.new.self c.apply_all.new.store (adopted old c.args.gtids.now) (g.W.Observer.account c.args.observer.now) (g.W.Observer.account c.apply_all.new.observer) c.adopt.ensures.following
+    (since.notes clean false (adopted old c.args.gtids.now) whole)
 
 pub returns-in-Err-clause-notes : goal.returns-in-Err-clause-notes
-returns-in-Err-clause-notes g c clean old holds = led_unadopted g.S.Store c.args.store.now c.adopt.new.self old c.args.gtids.now c.in-Err.fault (g.W.Observer.account c.args.observer.now) (c.in-Err.ensures.adopts clean old holds)
+returns-in-Err-clause-notes g c clean old holds begun = absurd begun
 
 pub returns-in-Ok-clause-heeds : goal.returns-in-Ok-clause-heeds
 returns-in-Ok-clause-heeds g c clean old holds on begun =

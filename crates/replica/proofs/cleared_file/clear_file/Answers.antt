@@ -2,7 +2,8 @@ use Rattle.std.proofs.Common.{None}
 use Rattle.sqlite_wal.specs.Files.{image_at}
 use Rattle.store.specs.Entering.{names_for}
 use Rattle.replica.proofs.Closed.{closes_as}
-use Rattle.replica.proofs.ClearFiles.{cleared_into, keeps_stayed, noted_since}
+use Rattle.replica.proofs.ClearFiles.{cleared_into, noted_since}
+use Rattle.replica.proofs.StayedFiles.{keeps_stayed}
 use Rattle.replica.proofs.cleared_file.clear_file.Goals as goal
 
 pub returns-clause-clears : goal.returns-clause-clears

@@ -26,9 +26,9 @@ returns-clause-keeps g c on names content files =
 
 pub returns-clause-notes : goal.returns-clause-notes
 returns-clause-notes g c names content files =
-    noted_of_files _ names content c.in_ok-store.store c.connect_and_follow-connection.new.store (λ file. inl refl) (g.W.Observer.account c.args.observer.now) (g.W.Observer.account c.connect_and_follow-connection.new.observer) [] c.close_file-closed.result
+    noted_of_files _ names content c.in_ok-store.store c.connect_and_follow-connection.new.store (λ file. inl refl) content (g.W.Observer.account c.args.observer.now) (g.W.Observer.account c.connect_and_follow-connection.new.observer) [] c.close_file-closed.result
     c.connect_and_follow-connection.ensures.keeps.store.following (λ clean. let o = c.in_ok-store.ensures.opens (c.connect_and_follow-connection.ensures.keeps.store.clean clean) names content files in (o.0, o.1))
-    c.connect_and_follow-connection.ensures.keeps.notes c.close_file-closed.ensures.copied c.close_file-closed.ensures.err
+    (λ clean holds. c.connect_and_follow-connection.ensures.keeps.notes clean false content holds) c.close_file-closed.ensures.copied c.close_file-closed.ensures.err
 
 pub returns-clause-until : goal.returns-clause-until
 returns-clause-until g c =

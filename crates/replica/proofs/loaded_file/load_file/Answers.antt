@@ -1,3 +1,4 @@
+use Rattle.std.proofs.Common.{inl, refl}
 use Rattle.sqlite_wal.specs.Files.{image_at}
 use Rattle.gtid.specs.Identifier.{id}
 use Rattle.store.specs.Entering.{wanted_of, names_for}
@@ -18,6 +19,6 @@ returns-clause-closing g c =
 
 pub returns-clause-notes : goal.returns-clause-notes
 returns-clause-notes g c names content files =
-    noted_of_load _ names content c.in_ok-store.store c.load-applied.new.store c.args.copy.gtids.now (id c.args.copy.first) (g.W.Observer.account c.args.observer.now) (g.W.Observer.account c.load-applied.new.observer) c.load-applied.result.1 c.close_file-closed.result
+    noted_of_load _ names content c.in_ok-store.store c.load-applied.new.store (λ file. inl refl) c.args.copy.gtids.now (id c.args.copy.first) (g.W.Observer.account c.args.observer.now) (g.W.Observer.account c.load-applied.new.observer) c.load-applied.result.1 c.close_file-closed.result
     c.load-applied.ensures.keeps.following (λ clean. let o = c.in_ok-store.ensures.opens (c.load-applied.ensures.keeps.clean clean) names content files in (o.0, o.1)) (λ clean holds. c.load-applied.ensures.notes clean content holds) c.close_file-closed.ensures.copied
     c.close_file-closed.ensures.err

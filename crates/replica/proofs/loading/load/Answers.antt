@@ -1,11 +1,11 @@
 use Rattle.std.proofs.Common.{[], false, subst}
 use Rattle.gtid.specs.Identifier.{Ids, id}
+use Rattle.store.specs.Changes.{adopted}
 use Rattle.replica.specs.Changing.{HasChanged}
-use Rattle.replica.specs.Noted.{IsLedTo}
-use Rattle.replica.specs.Change.{begun_with}
+use Rattle.replica.specs.Noted.{IsLedSinceOpening}
 use Rattle.replica.specs.Copies.{with_first}
-use Rattle.replica.proofs.Changed.{led_likewise}
-use Rattle.replica.proofs.Loaded.{refused, unadopted, led_unloaded}
+use Rattle.replica.proofs.Changed.{since_likewise}
+use Rattle.replica.proofs.Loaded.{refused, unadopted}
 use Rattle.replica.proofs.Keeps.{store_then}
 use Rattle.replica.proofs.loading.load.Goals as goal
 
@@ -18,12 +18,12 @@ returns-in-Ok-set_of-clause-loads g c clean old holds =
     )
 
 pub returns-in-Ok-set_of-clause-notes : goal.returns-in-Ok-set_of-clause-notes
-returns-in-Ok-set_of-clause-notes g c clean old holds =
+returns-in-Ok-set_of-clause-notes g c clean old holds begun =
     let j = c.in-Ok.ensures.judges (c.change-applied.ensures.keeps.clean clean) old holds in
     let is = g.W.Observer.account c.change-applied.new.observer in
-    subst (λ (ids : Ids). IsLedTo g.S.Store c.args.store.now c.change-applied.new.store false (begun_with c.change-applied.result.1 old ids) (g.W.Observer.account c.args.observer.now) is []) c.in-Ok-set_of.ensures
-    (led_likewise g.S.Store c.args.store.now c.may_load.new.store c.change-applied.new.store false (begun_with c.change-applied.result.1 old c.in-Ok-set_of.gtids) (g.W.Observer.account c.args.observer.now) is [] c.may_load.ensures.keeps.following
-    (c.change-applied.ensures.notes clean old j.0))
+    subst (λ (ids : Ids). IsLedSinceOpening g.S.Store c.args.store.now c.change-applied.new.store false (adopted old ids) (g.W.Observer.account c.args.observer.now) is []) c.in-Ok-set_of.ensures
+    (since_likewise g.S.Store c.args.store.now c.may_load.new.store c.change-applied.new.store (adopted old c.in-Ok-set_of.gtids) (g.W.Observer.account c.args.observer.now) is c.may_load.ensures.keeps.following
+    (c.change-applied.ensures.notes clean old j.0 begun))
 
 pub returns-in_default-clause-loads : goal.returns-in_default-clause-loads
 returns-in_default-clause-loads g c clean old holds =
@@ -33,8 +33,7 @@ returns-in_default-clause-loads g c clean old holds =
     )
 
 pub returns-in_default-clause-notes : goal.returns-in_default-clause-notes
-returns-in_default-clause-notes g c clean old holds =
-    led_unloaded g.S.Store c.args.store.now c.may_load.new.store old (g.W.Observer.account c.args.observer.now) (c.in-Ok.ensures.judges clean old holds).0
+returns-in_default-clause-notes g c clean old holds begun = absurd begun
 
 pub returns-in-Err-clause-loads : goal.returns-in-Err-clause-loads
 returns-in-Err-clause-loads g c clean old holds =

@@ -1,0 +1,33 @@
+use Rattle.std.proofs.Common.{◌≡◌, inl, inr, Bool, false, true, refl, subst}
+use Rattle.gtid.specs.Identifier.{Ids}
+use Rattle.binlog.specs.Filter.{Names}
+use Rattle.replica.proofs.ClearStore.{stays_whole, stays_listed}
+use Rattle.replica.proofs.listed_file.list.Goals as goal
+
+pub returns-in-Ok-true-clause-lists : goal.returns-in-Ok-true-clause-lists
+returns-in-Ok-true-clause-lists g c clean content holds = inl (
+  c.begin.new.self,
+  subst (λ (asks : Bool). g.L.Lister.begun c.args.lister.now content.executed c.args.store.now.following asks c.begin.new.self) c.in-Ok-true.field-0-test
+      (subst (λ (names : Names). g.L.Lister.begun c.args.lister.now content.executed names c.in-Ok-true.field-0 c.begin.new.self) c.following.ensures
+      (subst (λ (ids : Ids). g.L.Lister.begun c.args.lister.now ids c.following.result.now c.in-Ok-true.field-0 c.begin.new.self) (c.executed.ensures.value false content holds) c.in-Ok-true.ensures)),
+  (c.list.ensures.lists clean content holds).0,
+)
+
+pub returns-in-Ok-true-clause-stays : goal.returns-in-Ok-true-clause-stays
+returns-in-Ok-true-clause-stays g c clean content holds =
+    stays_listed g.S.Store (λ h db is_open may. g.met.S.Store.settled h.store db is_open may) g.L.Visitor.row_gives c.args.store.now c.list.new.self content c.begin.new.self c.list.new.visitor c.list.result c.list.ensures.following
+    (c.list.ensures.lists clean content holds) (c.list.ensures.crash clean content holds)
+
+pub returns-in-Ok-false-clause-lists : goal.returns-in-Ok-false-clause-lists
+returns-in-Ok-false-clause-lists g c clean content holds = inr (inl (
+  subst (λ (asks : Bool). g.L.Lister.begun c.args.lister.now content.executed c.args.store.now.following asks c.begin.new.self) c.in-Ok-false.field-0-test
+      (subst (λ (names : Names). g.L.Lister.begun c.args.lister.now content.executed names c.in-Ok-false.field-0 c.begin.new.self) c.following.ensures
+      (subst (λ (ids : Ids). g.L.Lister.begun c.args.lister.now ids c.following.result.now c.in-Ok-false.field-0 c.begin.new.self) (c.executed.ensures.value false content holds) c.in-Ok-false.ensures)),
+  refl,
+))
+
+pub returns-in-Ok-false-clause-stays : goal.returns-in-Ok-false-clause-stays
+returns-in-Ok-false-clause-stays g c clean content holds = stays_whole g.S.Store (λ h db is_open may. g.met.S.Store.settled h.store db is_open may) c.args.store.now content (λ left. left ≡ content) refl holds
+
+pub returns-in-Err-clause-stays : goal.returns-in-Err-clause-stays
+returns-in-Err-clause-stays g c clean content holds = stays_whole g.S.Store (λ h db is_open may. g.met.S.Store.settled h.store db is_open may) c.args.store.now content (λ left. left ≡ content) refl holds

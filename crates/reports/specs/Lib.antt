@@ -1,0 +1,2 @@
+pub mod DatabaseSets
+pub mod TextLines

@@ -1,0 +1,101 @@
+//! The executed set of a database, and what of a set it has not executed.
+
+ghost use Rattle.std.specs.Prelude.{◌≡◌, None};
+
+use binlog::Follow;
+use gtid::GtidSet;
+use replica::{Lister, NoMemory};
+use store::{Listed, Visitor};
+
+/// Keeps a copy of the executed set of a database that it is given.
+#[derive(Drop)]
+pub struct ExecutedSet {
+    found: Option<GtidSet>,
+}
+
+impl ExecutedSet {
+    /// It was given no database.
+    pub fn new() -> ExecutedSet
+        ensures { result.found ≡ None }
+    {
+        ExecutedSet { found: None }
+    }
+
+    /// The executed set; none if it was given no database.
+    pub fn found(self) -> Option<GtidSet>
+        ensures { result ≡ self.found }
+    {
+        let ExecutedSet { found } = self;
+        found
+    }
+}
+
+impl Visitor for ExecutedSet {
+    type Error = NoMemory;
+
+    ghost row_gives = { λ _ _ _ _. Unit {0} };
+
+    fn row(&mut self, _row: &Listed<'_>) -> Result<(), NoMemory> {
+        Ok(())
+    }
+}
+
+impl Lister for ExecutedSet {
+    ghost use Rattle.reports.specs.DatabaseSets.{KeepsExecuted};
+
+    ghost begun = { KeepsExecuted };
+
+    fn begin(&mut self, executed: &GtidSet, _following: &Follow) -> Result<bool, NoMemory> {
+        let Ok(found) = executed.copy() else {
+            return Err(NoMemory);
+        };
+        self.found = Some(found);
+        Ok(false)
+    }
+}
+
+/// Keeps of a set what a database that it is given has not executed.
+#[derive(Drop)]
+pub struct MissingSet {
+    missing: GtidSet,
+}
+
+impl MissingSet {
+    /// Nothing of the set is executed yet.
+    pub fn new(asked: GtidSet) -> MissingSet
+        ensures { result.missing ≡ asked }
+    {
+        MissingSet { missing: asked }
+    }
+
+    /// What of the set is not executed.
+    pub fn missing(self) -> GtidSet
+        ensures { result ≡ self.missing }
+    {
+        let MissingSet { missing } = self;
+        missing
+    }
+}
+
+impl Visitor for MissingSet {
+    type Error = NoMemory;
+
+    ghost row_gives = { λ _ _ _ _. Unit {0} };
+
+    fn row(&mut self, _row: &Listed<'_>) -> Result<(), NoMemory> {
+        Ok(())
+    }
+}
+
+impl Lister for MissingSet {
+    ghost use Rattle.reports.specs.DatabaseSets.{KeepsMissing};
+
+    ghost begun = { KeepsMissing };
+
+    fn begin(&mut self, executed: &GtidSet, _following: &Follow) -> Result<bool, NoMemory> {
+        let Ok(()) = self.missing.subtract(executed) else {
+            return Err(NoMemory);
+        };
+        Ok(false)
+    }
+}
