@@ -1,14 +1,8 @@
 -- Bodies of events, by the whole event.
-use Rattle.std.proofs.Common.{◌≡◌, ℕ, suc, ◌+◌, ◌-◌, ◌<◌, ◌≤◌, ◌^◌, true, List, ◌∷◌, ◌++◌, length, get_or, take, drop, codes, None, refl, sym, ap, ◌∙◌, append_assoc, arith}
-use Rattle.std.proofs.lemmas.List.{length-append, length-drop, length-take, take_at}
-use Rattle.std.proofs.lemmas.Bool.{le-ltb}
-use Rattle.byteorder.specs.Endian.{little_bytes, little_number}
-use Rattle.byteorder.specs.Numbers.{little_number-reads_back, little_from-lt}
-use Rattle.binlog.specs.Body.{IsGtidBody, IsQuery, text_place, statement, is_statement, query_fault}
-use Rattle.binlog.specs.declared.body.query.Query.{Query}
-use Rattle.binlog.specs.declared.body.query.Query.TheVariants.{Begin, Commit}
-use Rattle.binlog.specs.Fault.{number_at}
-use Rattle.wire.proofs.Cuts.{IsBytes, IsBytes-drop, first_left, number_at_front, drop_drop, cut, one, after, drop_at, right_7}
+use Rattle.binlog.proofs.Names.{◌≡◌, ℕ, suc, ◌+◌, ◌-◌, ◌<◌, ◌≤◌, ◌^◌, true, List, ◌∷◌, ◌++◌, length, get_or, take, codes, None, refl, sym, ap, ◌∙◌, append_assoc, arith, length-append, length-drop, length-take, take_at, le-ltb, little_bytes, little_number, little_number-reads_back, little_from-lt, IsGtidBody, IsQuery, text_place, Query, Begin, Commit, number_at, IsBytes, IsBytes-drop, first_left, drop_drop, drop_at}
+use Rattle.std.proofs.Common.{drop}
+use Rattle.binlog.specs.Body.{statement, is_statement, query_fault}
+use Rattle.wire.proofs.Cuts.{number_at_front, cut, one, after, right_7}
 
 -- a number at 19, and what follows it
 pub long_number : (bytes : List ℕ) → IsBytes bytes → 27 ≤ length bytes → drop 19 bytes ≡ little_bytes 8 (little_number 8 (drop 19 bytes)) ++ drop 27 bytes

@@ -1,20 +1,12 @@
 -- Bodies other than table maps and rows have a value or a refusal, and one.
-use Rattle.std.proofs.Common.{◌≡◌, ℕ, ◌+◌, ◌-◌, ◌≤◌, ◌^◌, ◌==◌, ◌&&◌, true, List, [], ◌∷◌, ◌++◌, length, get_or, take, drop, codes, Option, Some, None, refl, sym, ap, subst, ◌∙◌, arith, inl, inr}
-use Rattle.std.specs.Prelude.{nat_lt, nat_le, not}
-use Rattle.std.specs.Str.{bytes_eq}
-use Rattle.std.proofs.Math.ListN.{drop_of_length-le}
-use Rattle.std.proofs.lemmas.List.{length-append, length-drop, get_or-drop, append-nil}
-use Rattle.std.proofs.lemmas.Bool.{le-ltb, le-leb, ltb-false, leb-true, eqb-true, and_parts, or_cases, not-false}
-use Rattle.std.proofs.lemmas.Slice.Eq.{bytes_eq-Decides}
-use Rattle.byteorder.specs.Endian.{little_bytes, little_number}
-use Rattle.byteorder.specs.Numbers.{little_number-reads_back, little_from-lt}
-use Rattle.binlog.specs.Fault.{refuse, needs, first_of, number_at}
-use Rattle.binlog.specs.Body.{IsFormat, IsRotate, IsXid, IsGtidBody, IsQuery, statement, is_statement, text_place, read_lengths, length_refusals, format_fault, rotate_fault, xid_fault, gtid_fault, query_fault}
-use Rattle.binlog.specs.declared.body.query.Query.{Query}
-use Rattle.binlog.specs.declared.body.query.Query.TheVariants.{Begin, Commit}
-use Rattle.binlog.specs.declared.fault.EventFault.{EventFault}
+use Rattle.binlog.proofs.Names.{◌≡◌, ℕ, ◌+◌, ◌-◌, ◌≤◌, ◌^◌, ◌==◌, ◌&&◌, true, List, [], ◌∷◌, ◌++◌, length, get_or, take, codes, Option, Some, None, refl, sym, ap, subst, ◌∙◌, arith, inl, inr, nat_lt, nat_le, bytes_eq, drop_of_length-le, length-append, length-drop, get_or-drop, append-nil, le-ltb, le-leb, ltb-false, leb-true, eqb-true, and_parts, not-false, bytes_eq-Decides, little_bytes, little_number, little_number-reads_back, little_from-lt, refuse, needs, number_at, IsFormat, IsGtidBody, IsQuery, text_place, read_lengths, length_refusals, Query, Begin, Commit, EventFault, IsBytes, drop_drop}
+use Rattle.std.proofs.Common.{drop}
+use Rattle.std.specs.Prelude.{not}
+use Rattle.std.proofs.lemmas.Bool.{or_cases}
+use Rattle.binlog.specs.Fault.{first_of}
+use Rattle.binlog.specs.Body.{IsRotate, IsXid, statement, is_statement, format_fault, rotate_fault, xid_fault, gtid_fault, query_fault}
 use Rattle.binlog.specs.declared.fault.EventFaultKind.TheVariants.{FormatVersion, HeaderLengths, Checksum, Statement, Trailing, Number}
-use Rattle.wire.proofs.Cuts.{IsBytes, drop_drop, after}
+use Rattle.wire.proofs.Cuts.{after}
 use Rattle.binlog.proofs.Tables.{passes, not_refused, is_there}
 use Rattle.binlog.proofs.Bodies.{long_number, is_gtid, gtid_reported, is_query}
 use Rattle.binlog.proofs.Formats.{first_after, are_lengths, none_wrong, is_format, format_reported, format_then}

@@ -1,16 +1,11 @@
 -- Column types and their bytes.
-use Rattle.std.proofs.Common.{◌≡◌, ℕ, zero, suc, ◌+◌, ◌-◌, ◌*◌, ◌/◌, ◌%◌, ◌<◌, ◌≤◌, Bool, true, false, ◌==◌, ◌&&◌, not, List, [], ◌∷◌, ◌++◌, length, get_or, drop, Option, Some, None, Result, Ok, Err, IsTrue, IfOk, IfErr, bit_and, bit_or, add-zero, refl, sym, ap, subst, ◌∙◌, arith, inl, inr}
-use Rattle.std.specs.Prelude.{nat_le, bit_xor}
-use Rattle.std.proofs.lemmas.Bool.{cases_eq, ne_eqb, eqb-true, leb-true, ltb-true, le-leb, le-ltb, lt-ltb, and_parts, cases_lt}
-use Rattle.std.proofs.lemmas.List.{length-append}
-use Rattle.binlog.specs.Column.{type_code, metadata, string_metadata, is_lawful, IsColumn, HasColumn, metadata_size, metadata_fault, is_between, string_fault, when, column_fault}
-use Rattle.binlog.specs.declared.fault.EventFaultKind.{EventFaultKind}
-use Rattle.binlog.specs.declared.fault.EventFaultKind.TheVariants.{Truncated, Metadata, ColumnType as UnknownColumn}
-use Rattle.binlog.specs.declared.column.kind.ColumnKind.{ColumnKind}
-use Rattle.binlog.specs.declared.column.kind.ColumnType.{ColumnType}
-use Rattle.binlog.specs.declared.column.kind.ColumnKind.TheVariants.{Tiny, Short, Int24, Long, LongLong, Varchar, Blob, Bit, NewDecimal, Float, Double, Date, Year, Timestamp2, Datetime2, Time2, Char, Enum, Set}
+use Rattle.binlog.proofs.Names.{◌≡◌, ℕ, zero, suc, ◌+◌, ◌-◌, ◌*◌, ◌/◌, ◌%◌, ◌<◌, ◌≤◌, Bool, true, false, ◌==◌, ◌&&◌, not, List, [], ◌∷◌, ◌++◌, length, get_or, Option, Some, None, Result, Ok, Err, refl, sym, ap, subst, ◌∙◌, arith, inl, inr, nat_le, cases_eq, ne_eqb, eqb-true, leb-true, ltb-true, le-leb, le-ltb, lt-ltb, and_parts, cases_lt, length-append, type_code, metadata, is_lawful, IsColumn, column_fault, EventFaultKind, Truncated, Metadata, ColumnKind, ColumnType, Long, Varchar, Blob, Bit, Char, Enum, Set, IsBytes, drop_front}
+use Rattle.std.proofs.Common.{drop, IsTrue, IfOk, IfErr, bit_and, bit_or, add-zero}
+use Rattle.std.specs.Prelude.{bit_xor}
+use Rattle.binlog.specs.Column.{string_metadata, HasColumn, metadata_size, metadata_fault, is_between, string_fault, when}
+use Rattle.binlog.specs.declared.fault.EventFaultKind.TheVariants.{ColumnType as UnknownColumn}
+use Rattle.binlog.specs.declared.column.kind.ColumnKind.TheVariants.{Tiny, Short, Int24, LongLong, NewDecimal, Float, Double, Date, Year, Timestamp2, Datetime2, Time2}
 use Rattle.binlog.specs.Columns.{kind_of}
-use Rattle.wire.proofs.Cuts.{IsBytes, drop_front}
 
 -- ---- The types that are read, by their bytes.
 

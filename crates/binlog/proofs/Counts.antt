@@ -1,16 +1,10 @@
 -- Counts: length-encoded integers inside an event.
-use Rattle.std.proofs.Common.{◌≡◌, ℕ, suc, ◌+◌, ◌-◌, ◌<◌, ◌≤◌, ◌==◌, List, ◌∷◌, ◌++◌, length, get_or, take, drop, Some, None, refl, sym, ap, subst, ◌∙◌, arith, inl, inr}
-use Rattle.std.specs.Prelude.{nat_le, if◌then◌else◌}
-use Rattle.std.proofs.lemmas.Bool.{false≢true, cases_eq, cases_lt, le-leb, le-ltb, lt-ltb, ne_eqb}
-use Rattle.std.proofs.lemmas.List.{length-append, length-drop, get_or-drop}
-use Rattle.byteorder.specs.Endian.{little_number}
-use Rattle.byteorder.specs.Numbers.{little_number-reads_back, little_from-lt}
-use Rattle.wire.specs.Integer.{IsLengthEncoded}
-use Rattle.binlog.specs.Count.{width_of, count_width, count_at, no_count}
-use Rattle.binlog.specs.declared.fault.EventFaultKind.{EventFaultKind}
-use Rattle.binlog.specs.declared.fault.EventFaultKind.TheVariants.{Truncated}
+use Rattle.binlog.proofs.Names.{◌≡◌, ℕ, suc, ◌+◌, ◌-◌, ◌<◌, ◌≤◌, ◌==◌, List, ◌∷◌, ◌++◌, length, get_or, take, Some, None, refl, sym, ap, subst, ◌∙◌, arith, inl, inr, nat_le, false≢true, cases_eq, cases_lt, le-leb, le-ltb, lt-ltb, ne_eqb, length-append, length-drop, get_or-drop, little_number, little_number-reads_back, little_from-lt, IsLengthEncoded, count_width, count_at, EventFaultKind, Truncated, IsBytes, drop_drop}
+use Rattle.std.proofs.Common.{drop}
+use Rattle.std.specs.Prelude.{if◌then◌else◌}
+use Rattle.binlog.specs.Count.{width_of, no_count}
 use Rattle.binlog.proofs.Tables.{passes, not_refused, is_there}
-use Rattle.wire.proofs.Cuts.{IsBytes, drop_drop, one, take_is_number}
+use Rattle.wire.proofs.Cuts.{one, take_is_number}
 
 -- ---- By the bytes from the offset on.
 

@@ -1,24 +1,16 @@
 -- Events: bytes are one or are refused, and what they say is determined.
-use Rattle.std.proofs.Common.{◌≡◌, ℕ, ◌+◌, ◌==◌, ◌&&◌, Bool, true, false, List, [], ◌∷◌, get_or, take, drop, codes, Option, Some, None, refl, sym, ap, subst, ◌∙◌, inl, inr}
-use Rattle.std.specs.Prelude.{nat_le, not, if◌then◌else◌, Result, Ok, Err, IfOk, IfErr, MatchResult}
-use Rattle.std.specs.Str.{bytes_eq}
-use Rattle.std.proofs.lemmas.Bool.{cases_eq, cases_Bool, ne_eqb, false≢true, or_parts}
-use Rattle.std.proofs.lemmas.Option.{none-some}
-use Rattle.binlog.specs.Fault.{refuse, first_of, number_at}
-use Rattle.binlog.specs.Header.{IsFramed, HasFrame, header_fault}
-use Rattle.binlog.specs.Body.{IsQuery, statement, text_place}
-use Rattle.binlog.specs.Table.{TableValue, IsNamed, AreColumns, names_fault, columns_fault, named_schema, named_table, terminator_place}
-use Rattle.binlog.specs.Columns.{columns_at}
-use Rattle.binlog.specs.Rows.{RowsValue, rows_code, rows_fault}
-use Rattle.binlog.specs.Filter.{Names, admits}
+use Rattle.binlog.proofs.Names.{◌≡◌, ℕ, ◌+◌, ◌==◌, ◌&&◌, Bool, true, false, List, [], ◌∷◌, get_or, take, codes, Option, Some, None, refl, sym, ap, subst, ◌∙◌, inl, inr, nat_le, bytes_eq, cases_eq, cases_Bool, ne_eqb, false≢true, none-some, refuse, number_at, IsFramed, IsQuery, text_place, TableValue, IsNamed, AreColumns, terminator_place, columns_at, RowsValue, admits, Query, Begin, Commit, RowsKind, Write, Update, Delete, EventFault, IsBytes}
+use Rattle.std.proofs.Common.{drop}
+use Rattle.std.specs.Prelude.{not, if◌then◌else◌, Result, Ok, Err, IfOk, IfErr, MatchResult}
+use Rattle.std.proofs.lemmas.Bool.{or_parts}
+use Rattle.binlog.specs.Fault.{first_of}
+use Rattle.binlog.specs.Header.{HasFrame, header_fault}
+use Rattle.binlog.specs.Body.{statement}
+use Rattle.binlog.specs.Table.{names_fault, columns_fault, named_schema, named_table}
+use Rattle.binlog.specs.Rows.{rows_code, rows_fault}
+use Rattle.binlog.specs.Filter.{Names}
 use Rattle.binlog.specs.Event.{EventValue, format, begin, commit, neutral, stop, rotate, gtid, table_map, other_map, rows, xid, is_one_of, neutral_codes, refused_codes, known_codes, IsNeutral, HasBody, IsEvent, HasEvent, code_of, may_ignore_of, type_fault, table_map_fault, body_fault, event_fault}
-use Rattle.binlog.specs.declared.body.query.Query.{Query}
-use Rattle.binlog.specs.declared.body.query.Query.TheVariants.{Begin, Commit}
-use Rattle.binlog.specs.declared.body.rows_event.RowsKind.{RowsKind}
-use Rattle.binlog.specs.declared.body.rows_event.RowsKind.TheVariants.{Write, Update, Delete}
-use Rattle.binlog.specs.declared.fault.EventFault.{EventFault}
 use Rattle.binlog.specs.declared.fault.EventFaultKind.TheVariants.{TypeCode, Anonymous}
-use Rattle.wire.proofs.Cuts.{IsBytes}
 use Rattle.binlog.proofs.Tables.{passes, not_refused}
 use Rattle.binlog.proofs.Headers as headers
 use Rattle.binlog.proofs.Bodies.{gtid_reported, query_reported, query_not_refused}

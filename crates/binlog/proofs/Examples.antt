@@ -1,11 +1,9 @@
 -- Worked examples.
-use Rattle.std.proofs.Common.{◌≡◌, [], ◌∷◌, Some, None, Ok, Err, refl}
+use Rattle.binlog.proofs.Names.{◌≡◌, [], ◌∷◌, Some, None, Ok, Err, refl, metadata, column_fault, null_cell, number_cell, bytes_cell, row_cells, Truncated, Size, Metadata, Long, Varchar, Char, Blob, Enum, Set, Bit}
 use Rattle.binlog.specs.Header.{header_fault}
-use Rattle.binlog.specs.Column.{metadata, metadata_size, metadata_fault, column_fault}
-use Rattle.binlog.specs.Cell.{null_cell, number_cell, bytes_cell}
-use Rattle.binlog.specs.Row.{row_end, row_cells}
-use Rattle.binlog.specs.declared.fault.EventFaultKind.TheVariants.{Truncated, Size, Metadata, ColumnType as UnknownColumn}
-use Rattle.binlog.specs.declared.column.kind.ColumnKind.TheVariants.{Long, Varchar, Char, Blob, Enum, Set, Bit}
+use Rattle.binlog.specs.Column.{metadata_size, metadata_fault}
+use Rattle.binlog.specs.Row.{row_end}
+use Rattle.binlog.specs.declared.fault.EventFaultKind.TheVariants.{ColumnType as UnknownColumn}
 
 xid_header : header_fault (0 ∷ 0 ∷ 0 ∷ 0 ∷ 16 ∷ 1 ∷ 0 ∷ 0 ∷ 0 ∷ 27 ∷ 0 ∷ 0 ∷ 0 ∷ 0 ∷ 0 ∷ 0 ∷ 0 ∷ 0 ∷ 0 ∷ 1 ∷ 0 ∷ 0 ∷ 0 ∷ 0 ∷ 0 ∷ 0 ∷ 0 ∷ []) ≡ None
 unfolding header_fault

@@ -1,15 +1,12 @@
 -- Format descriptions, by the whole event.
-use Rattle.std.proofs.Common.{◌≡◌, ℕ, zero, suc, ◌+◌, ◌-◌, ◌<◌, ◌≤◌, ◌==◌, not, List, [], ◌∷◌, ◌++◌, length, get_or, take, drop, Option, Some, None, refl, sym, ap, ◌∙◌, arith}
-use Rattle.std.proofs.lemmas.Bool.{le-ltb, eqb-true, not-false}
-use Rattle.std.proofs.lemmas.List.{length-append, length-drop, length-take, get_or-drop, get_or-take}
-use Rattle.byteorder.specs.Endian.{little_bytes, little_number}
-use Rattle.byteorder.specs.Numbers.{little_number-reads_back}
-use Rattle.binlog.specs.Fault.{refuse, first_of, number_at}
-use Rattle.binlog.specs.Body.{IsFormat, read_lengths, length_refusal, length_refusals, format_fault}
-use Rattle.binlog.specs.declared.fault.EventFault.{EventFault}
+use Rattle.binlog.proofs.Names.{◌≡◌, ℕ, zero, suc, ◌+◌, ◌-◌, ◌<◌, ◌≤◌, ◌==◌, not, List, [], ◌∷◌, ◌++◌, length, get_or, take, Option, Some, None, refl, sym, ap, ◌∙◌, arith, le-ltb, eqb-true, not-false, length-append, length-drop, length-take, get_or-drop, little_bytes, little_number, little_number-reads_back, refuse, number_at, IsFormat, read_lengths, length_refusals, EventFault, IsBytes, first_left, drop_drop, drop_front}
+use Rattle.std.proofs.Common.{drop}
+use Rattle.std.proofs.lemmas.List.{get_or-take}
+use Rattle.binlog.specs.Fault.{first_of}
+use Rattle.binlog.specs.Body.{length_refusal, format_fault}
 use Rattle.binlog.specs.declared.fault.EventFaultKind.TheVariants.{HeaderLengths, Checksum}
 use Rattle.binlog.proofs.Tables.{passes, not_refused}
-use Rattle.wire.proofs.Cuts.{IsBytes, first_left, number_at_front, drop_drop, cut, one, after, drop_front, right_5}
+use Rattle.wire.proofs.Cuts.{number_at_front, cut, one, after, right_5}
 
 -- ---- Tables one after the other.
 

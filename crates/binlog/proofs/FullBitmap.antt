@@ -1,15 +1,9 @@
 -- Bitmaps of bits that are all set.
-use Rattle.std.proofs.Common.{◌≡◌, ℕ, suc, ◌+◌, ◌-◌, ◌*◌, ◌<◌, ◌≤◌, true, false, List, [], ◌∷◌, length, get_or, map, replicate, sym, ap, ◌∙◌, arith, inl, inr}
-use Rattle.std.specs.Prelude.{nat_lt}
-use Rattle.std.specs.List.{range_with_len}
-use Rattle.std.proofs.lemmas.Bool.{cases_lt, lt-ltb, le-ltb}
-use Rattle.std.proofs.lemmas.List.{length-replicate, get_or-replicate, get_or_past}
-use Rattle.std.proofs.lemmas.List.FromFn.{length-map-range_with_len}
-use Rattle.binlog.specs.Row.{bitmap_size}
+use Rattle.binlog.proofs.Names.{◌≡◌, ℕ, suc, ◌+◌, ◌-◌, ◌*◌, ◌<◌, ◌≤◌, true, false, List, [], ◌∷◌, length, get_or, map, replicate, sym, ap, ◌∙◌, arith, inl, inr, nat_lt, range_with_len, cases_lt, lt-ltb, le-ltb, length-replicate, length-map-range_with_len, bitmap_size, bitmap_byte, full_bitmap}
+use Rattle.std.proofs.lemmas.List.{get_or-replicate, get_or_past}
 use Rattle.binlog.specs.Rows.{AllPresent}
-use Rattle.binlog.specs.RowsWritten.{bits_number, bitmap_byte}
-use Rattle.binlog.specs.Writing.{full_bitmap}
-use Rattle.binlog.proofs.RowsWritten.{set_bit}
+use Rattle.binlog.specs.RowsWritten.{bits_number}
+use Rattle.binlog.proofs.RowBytes.{set_bit}
 
 pub full_long : (n : ℕ) → length (full_bitmap n) ≡ bitmap_size n
 full_long n = length-map-range_with_len (bitmap_byte (replicate n true)) 0 (bitmap_size (length (replicate n true))) ∙ ap bitmap_size (length-replicate n true)

@@ -1,15 +1,9 @@
 -- The frame of an event and the refusals of its header.
-use Rattle.std.proofs.Common.{◌≡◌, ℕ, ◌≤◌, Bool, not, ◌==◌, List, ◌∷◌, ◌++◌, length, get_or, take, drop, None, refl, sym, ap, ◌∙◌, append_assoc, arith}
-use Rattle.std.specs.Prelude.{nat_le}
-use Rattle.std.proofs.lemmas.Bool.{le-ltb, eq-eqb, eqb-true, not-false}
-use Rattle.std.proofs.lemmas.List.{length-append, length-drop, length-take}
-use Rattle.byteorder.specs.Endian.{little_bytes, little_number}
-use Rattle.byteorder.specs.Numbers.{little_number-reads_back, little_from-lt}
-use Rattle.binlog.specs.Header.{IsFramed, header_fault}
-use Rattle.binlog.specs.Fault.{refuse, needs, number_at}
-use Rattle.binlog.specs.declared.fault.EventFaultKind.TheVariants.{Size}
+use Rattle.binlog.proofs.Names.{◌≡◌, ℕ, ◌≤◌, Bool, not, ◌==◌, List, ◌∷◌, ◌++◌, length, get_or, take, None, refl, sym, ap, ◌∙◌, append_assoc, arith, nat_le, le-ltb, eq-eqb, eqb-true, not-false, length-append, length-drop, length-take, little_bytes, little_number, little_number-reads_back, little_from-lt, IsFramed, refuse, needs, number_at, Size, IsBytes, IsBytes-drop, first_left, drop_drop}
+use Rattle.std.proofs.Common.{drop}
+use Rattle.binlog.specs.Header.{header_fault}
 use Rattle.binlog.proofs.Tables.{passes, not_refused, is_there}
-use Rattle.wire.proofs.Cuts.{IsBytes, IsBytes-drop, first_left, number_at_front, drop_drop, cut, one, after}
+use Rattle.wire.proofs.Cuts.{number_at_front, cut, one, after}
 
 right : (a b c d e : List ℕ) → a ++ b ++ c ++ d ++ e ≡ a ++ (b ++ (c ++ (d ++ e)))
 right a b c d e = simp append_assoc

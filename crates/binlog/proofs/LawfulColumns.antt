@@ -1,15 +1,7 @@
 -- The metadata of the columns that bytes or types encode is in range.
-use Rattle.std.proofs.Common.{◌≡◌, ℕ, ◌+◌, List, [], ◌∷◌, get_or, drop, Option, Some, None, IsTrue, refl, sym, ap, subst}
-use Rattle.std.specs.List.{AllByRecursion}
-use Rattle.std.proofs.lemmas.List.{get_or-drop}
-use Rattle.binlog.specs.Row.{kinds}
-use Rattle.binlog.specs.Column.{is_lawful, column_fault}
-use Rattle.binlog.specs.Table.{metadata_length}
+use Rattle.binlog.proofs.Names.{◌≡◌, ℕ, ◌+◌, List, [], ◌∷◌, get_or, Option, Some, None, refl, sym, ap, subst, AllByRecursion, get_or-drop, kinds, is_lawful, column_fault, metadata_length, ColumnKind, ColumnType, EventFaultKind, IsBytes}
+use Rattle.std.proofs.Common.{drop, IsTrue}
 use Rattle.binlog.specs.Columns.{kind_of, column_front, columns_of}
-use Rattle.binlog.specs.declared.column.kind.ColumnKind.{ColumnKind}
-use Rattle.binlog.specs.declared.column.kind.ColumnType.{ColumnType}
-use Rattle.binlog.specs.declared.fault.EventFaultKind.{EventFaultKind}
-use Rattle.wire.proofs.Cuts.{IsBytes}
 use Rattle.binlog.proofs.Columns.{some_column}
 use Rattle.binlog.proofs.TableColumns.{after_metadata, column_first}
 

@@ -1,23 +1,19 @@
 -- The names of a list, each once and in order.
-use Rattle.std.proofs.Common.{◌≡◌, ℕ, Bool, true, false, ◌&&◌, ◌||◌, cond, List, [], ◌∷◌, refl, ap, sym, ◌∙◌, Vec}
-use Rattle.std.proofs.lemmas.Bool.{and_parts}
+use Rattle.binlog.proofs.Names.{◌≡◌, ℕ, Bool, true, false, ◌&&◌, ◌||◌, List, [], ◌∷◌, refl, ap, sym, ◌∙◌, and_parts, AllByRecursion, bytes_eq, bytes_eq-Decides, Name, name_cmp, is_named_in, name_list}
+use Rattle.std.proofs.Common.{cond, Vec}
 use Rattle.std.specs.declared.cmp.Ordering.{Ordering}
 use Rattle.std.specs.declared.cmp.Ordering.TheVariants.{Less}
 use Rattle.std.specs.Ordering.{nat_cmp, eq_by_cmp}
 use Rattle.std.specs.Cmp.{on_total, both_tied}
 use Rattle.std.specs.Cmp.Lexicographic.{slice_cmp, texts_ties}
 use Rattle.std.specs.FinSet as set
-use Rattle.std.specs.List.{list_any, dedup, dedup_from, AllByRecursion}
+use Rattle.std.specs.List.{list_any, dedup, dedup_from}
 use Rattle.std.specs.List.Retain.{IsFiltered, DiffersFromLast}
 use Rattle.std.specs.List.Sorted.{IsPermutation, IsSorted, IsStrictlySortedBy}
-use Rattle.std.specs.Str.{bytes_eq}
 use Rattle.std.proofs.lemmas.List.Filters.{dedup_is}
 use Rattle.std.proofs.lemmas.List.Kept.{IsStrictlySortedBy-dedup}
 use Rattle.std.proofs.lemmas.List.Sorted.{list_any-IsPermutation}
-use Rattle.std.proofs.lemmas.Slice.Eq.{bytes_eq-Decides}
-use Rattle.binlog.specs.Filter.{Name, name_cmp, is_named_in}
-use Rattle.binlog.specs.FilterView.{name_list}
-use Rattle.binlog.proofs.Admitted.{name_cmp_total, name_cmp-same, listed}
+use Rattle.binlog.proofs.TableSets.{name_cmp_total, name_cmp-same, listed}
 
 -- a schema and a table as they are kept
 abbrev pub Kept : Type 0 → Type 0

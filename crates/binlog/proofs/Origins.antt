@@ -1,10 +1,8 @@
 -- Where and when an event was written, by the whole event.
-use Rattle.std.proofs.Common.{◌≡◌, ◌⊎◌, ℕ, ◌+◌, ◌-◌, ◌<◌, ◌≤◌, ◌^◌, Bool, true, false, if◌then◌else◌, List, ◌∷◌, ◌++◌, length, get_or, take, drop, inl, inr, refl, sym, ap, ◌∙◌, append_assoc, arith}
-use Rattle.std.proofs.lemmas.List.{length-append, length-drop, length-take}
-use Rattle.byteorder.specs.Endian.{little_bytes, little_number}
-use Rattle.byteorder.specs.Numbers.{little_number-reads_back, little_from-lt}
+use Rattle.binlog.proofs.Names.{◌≡◌, ℕ, ◌+◌, ◌-◌, ◌<◌, ◌≤◌, ◌^◌, Bool, true, false, List, ◌∷◌, ◌++◌, length, get_or, take, inl, inr, refl, sym, ap, ◌∙◌, append_assoc, arith, length-append, length-drop, length-take, little_bytes, little_number, little_number-reads_back, little_from-lt, IsBytes, IsBytes-drop, first_left, drop_drop}
+use Rattle.std.proofs.Common.{◌⊎◌, if◌then◌else◌, drop}
 use Rattle.binlog.specs.Origin.{IsWrittenAt, IsCommittedAt, original_follows}
-use Rattle.wire.proofs.Cuts.{IsBytes, IsBytes-drop, first_left, number_at_front, drop_drop, cut, one, after}
+use Rattle.wire.proofs.Cuts.{number_at_front, cut, one, after}
 
 -- ---- The header.
 

@@ -1,13 +1,10 @@
 -- Rows events without extra data and with the shortest count.
-use Rattle.std.proofs.Common.{ℕ, ◌+◌, ◌<◌, ◌≤◌, ◌^◌, List, length, refl, arith}
-use Rattle.wire.specs.Integer.{length_encoded}
-use Rattle.binlog.specs.Rows.{presents_size}
+use Rattle.binlog.proofs.Names.{ℕ, ◌+◌, ◌<◌, ◌≤◌, ◌^◌, List, length, refl, arith, length_encoded, presents_size, IsWritable, RowsKind}
 use Rattle.binlog.specs.Event.{rows}
-use Rattle.binlog.specs.Writing.{IsWritable, plain_rows}
-use Rattle.binlog.specs.declared.body.rows_event.RowsKind.{RowsKind}
-use Rattle.binlog.proofs.MapWritten.{spelled}
-use Rattle.binlog.proofs.RowsEventWritten.{spells, has_by_width}
-use Rattle.binlog.proofs.Written.{writes_rows}
+use Rattle.binlog.specs.Writing.{plain_rows}
+use Rattle.binlog.proofs.TableMapBytes.{spelled}
+use Rattle.binlog.proofs.RowsEventBytes.{spells, has_by_width}
+use Rattle.binlog.proofs.EventBytes.{writes_rows}
 
 pub record Ranges (id : ℕ) (kind : RowsKind) (columns : ℕ) (bytes : List ℕ) : Type 0 where
   pub an_id : id < 2 ^ 48

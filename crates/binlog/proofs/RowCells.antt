@@ -1,19 +1,9 @@
 -- Rows: where they end and which cells they have.
-use Rattle.std.proofs.Common.{◌≡◌, ℕ, zero, suc, ◌+◌, ◌-◌, ◌<◌, ◌≤◌, ◌^◌, true, false, List, [], ◌∷◌, ◌++◌, length, get_or, take, drop, map, Some, Result, Ok, Err, refl, sym, ap, subst, ◌∙◌, add-one, append_assoc, arith, inl, inr}
+use Rattle.binlog.proofs.Names.{◌≡◌, ℕ, zero, suc, ◌+◌, ◌-◌, ◌<◌, ◌≤◌, ◌^◌, true, false, List, [], ◌∷◌, ◌++◌, length, get_or, take, map, Some, Result, Ok, Err, refl, sym, ap, subst, ◌∙◌, append_assoc, arith, inl, inr, take-add, le-ltb, lt-ltb, cases_lt, cases_Bool, length-append, length-drop, length-take, length-map, append-nil, take_at, little_bytes, little_number, little_number-reads_back, little_from-lt, length-bytes_low_first, CellValue, null_cell, number_cell, bytes_cell, is_null, shape, IsValue, value_end, cell_of, kinds, bitmap_size, is_set, AreValues, further, ◌>>=◌, values_end, row_cells, ColumnKind, ColumnType, Shape, Number, Fixed, Prefixed, IsBytes, IsBytes-drop, drop_drop, drop_at, drop_front}
+use Rattle.std.proofs.Common.{drop, add-one}
 use Rattle.std.specs.Prelude.{slice_get}
-use Rattle.std.proofs.Math.Seq.{take-add}
-use Rattle.std.proofs.lemmas.Bool.{le-ltb, lt-ltb, cases_lt, cases_Bool}
-use Rattle.std.proofs.lemmas.List.{length-append, length-drop, length-take, length-map, append-nil, take_at}
-use Rattle.byteorder.specs.Endian.{little_bytes, little_number}
-use Rattle.byteorder.specs.Numbers.{little_number-reads_back, little_from-lt, length-bytes_low_first}
-use Rattle.binlog.specs.Cell.{CellValue, null_cell, number_cell, bytes_cell, is_null}
-use Rattle.binlog.specs.Shape.{shape, IsValue, value_end, cell_of}
-use Rattle.binlog.specs.Row.{kinds, bitmap_size, is_set, AreValues, IsRow, further, ◌>>=◌, values_end, row_end, cell_and_others, cells_from, row_cells}
-use Rattle.binlog.specs.declared.column.kind.ColumnKind.{ColumnKind}
-use Rattle.binlog.specs.declared.column.kind.ColumnType.{ColumnType}
-use Rattle.binlog.specs.declared.column.value.Shape.{Shape}
-use Rattle.binlog.specs.declared.column.value.Shape.TheVariants.{Number, Fixed, Prefixed}
-use Rattle.wire.proofs.Cuts.{IsBytes, IsBytes-drop, drop_drop, drop_at, drop_front, take_is_number}
+use Rattle.binlog.specs.Row.{IsRow, row_end, cell_and_others, cells_from}
+use Rattle.wire.proofs.Cuts.{take_is_number}
 
 -- ---- A column at a time.
 

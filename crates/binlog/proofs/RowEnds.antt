@@ -1,18 +1,9 @@
 -- Bytes that end before a row or a pair does: the relation, and the recursion that finds its place.
-use Rattle.std.proofs.Common.{◌≡◌, ℕ, suc, ◌+◌, ◌-◌, ◌≤◌, false, List, [], ◌∷◌, ◌++◌, length, take, drop, Some, Result, Ok, Err, refl, sym, ap, ◌∙◌, append_assoc, arith, inl, inr}
-use Rattle.std.proofs.lemmas.Bool.{le-ltb, lt-ltb, cases_lt, cases_Bool}
-use Rattle.std.proofs.lemmas.List.{length-append, length-take, take-append-drop, take_at}
-use Rattle.byteorder.specs.Endian.{little_number}
-use Rattle.binlog.specs.Cell.{CellValue, null_cell, number_cell, bytes_cell}
-use Rattle.binlog.specs.Shape.{shape, IsValue, EndsInValue, value_end, cell_of}
-use Rattle.binlog.specs.Row.{bitmap_size, is_set, AreValues, EndsInRow, further, ◌>>=◌, values_end, row_end, row_cells}
-use Rattle.binlog.specs.Rows.{EndsInPair, pair_end}
-use Rattle.binlog.specs.declared.column.kind.ColumnKind.{ColumnKind}
-use Rattle.binlog.specs.declared.body.rows_event.RowsKind.{RowsKind}
-use Rattle.binlog.specs.declared.body.rows_event.RowsKind.TheVariants.{Write, Update, Delete}
-use Rattle.binlog.specs.declared.column.value.Shape.{Shape}
-use Rattle.binlog.specs.declared.column.value.Shape.TheVariants.{Number, Fixed, Prefixed}
-use Rattle.wire.proofs.Cuts.{IsBytes, IsBytes-drop, drop_front, drop_at}
+use Rattle.binlog.proofs.Names.{◌≡◌, ℕ, suc, ◌+◌, ◌-◌, ◌≤◌, false, List, [], ◌∷◌, ◌++◌, length, take, Some, Result, Ok, Err, refl, sym, ap, ◌∙◌, append_assoc, arith, inl, inr, le-ltb, lt-ltb, cases_lt, cases_Bool, length-append, length-take, take-append-drop, take_at, little_number, CellValue, null_cell, number_cell, bytes_cell, shape, IsValue, value_end, cell_of, bitmap_size, is_set, AreValues, further, ◌>>=◌, values_end, row_cells, pair_end, ColumnKind, RowsKind, Write, Update, Delete, Shape, Number, Fixed, Prefixed, IsBytes, IsBytes-drop, drop_front, drop_at}
+use Rattle.std.proofs.Common.{drop}
+use Rattle.binlog.specs.Shape.{EndsInValue}
+use Rattle.binlog.specs.Row.{EndsInRow, row_end}
+use Rattle.binlog.specs.Rows.{EndsInPair}
 use Rattle.binlog.proofs.RowCells.{value_is_read, value_is_there, row_is_read, row_is_there, Nulls, now, later, earlier, are_values}
 
 pub split_err : (n place : ℕ) (r : Result ℕ ℕ) → further n r ≡ Err place → (p : ℕ) × (r ≡ Err p) × (n + p ≡ place)

@@ -1,27 +1,15 @@
 -- What the writer of rows has written so far.
-use Rattle.std.proofs.Common.{◌≡◌, ℕ, zero, suc, ◌+◌, ◌<◌, ◌≤◌, ◌^◌, ◌==◌, Bool, true, false, List, [], ◌∷◌, ◌++◌, length, get_or, take, map, sym, ap, ◌∙◌, arith}
-use Rattle.std.specs.Prelude.{nat_lt, nat_le, IsTrue}
-use Rattle.std.specs.List.{range_with_len}
-use Rattle.std.proofs.lemmas.Bool.{and_parts, eqb-true, leb-true}
-use Rattle.std.proofs.lemmas.List.{length-map, length-append, append-nil, append_assoc, take_all, take-take}
+use Rattle.binlog.proofs.Names.{◌≡◌, ℕ, zero, suc, ◌+◌, ◌<◌, ◌≤◌, ◌^◌, ◌==◌, Bool, true, false, List, [], ◌∷◌, ◌++◌, length, get_or, take, map, sym, ap, ◌∙◌, arith, nat_lt, nat_le, IsTrue, range_with_len, and_parts, eqb-true, leb-true, length-map, length-append, append-nil, take_all, little_bytes, length-bytes_low_first, CellValue, number_cell, bytes_cell, is_null, owned_value, owned_values, shape, kinds, owned_pairs, bitmap_byte, value_bytes, values_bytes, rows_bytes, value_fits, row_fits, pairs_fit, ColumnKind, ColumnType, RowsKind, Shape, Number, Fixed, Prefixed}
+use Rattle.std.proofs.lemmas.List.{append_assoc, take-take}
 use Rattle.std.proofs.Math.Seq.{take-append_seam}
 use Rattle.std.proofs.lemmas.List.FromFn.{map-range_with_len_more}
-use Rattle.byteorder.specs.Endian.{little_bytes}
-use Rattle.byteorder.specs.Numbers.{length-bytes_low_first}
 use Rattle.byteorder.proofs.Bytes.{take-bytes_low_first}
-use Rattle.binlog.specs.Cell.{CellValue, number_cell, bytes_cell, is_null, owned_value, owned_values}
-use Rattle.binlog.specs.Shape.{shape, is_readable}
-use Rattle.binlog.specs.Row.{kinds}
-use Rattle.binlog.specs.RowsView.{owned_pair, owned_pairs}
-use Rattle.binlog.specs.RowsWritten.{bitmap_byte, value_bytes, values_bytes, pair_bytes, rows_bytes, value_fits, row_fits, pair_fits, pairs_fit}
-use Rattle.binlog.proofs.RowsWritten.{column_kind, as_long}
+use Rattle.binlog.specs.Shape.{is_readable}
+use Rattle.binlog.specs.RowsView.{owned_pair}
+use Rattle.binlog.specs.RowsWritten.{pair_bytes, pair_fits}
+use Rattle.binlog.proofs.RowBytes.{column_kind, as_long}
 use Rattle.binlog.specs.declared.cell.OwnedCell.{OwnedCell}
-use Rattle.binlog.specs.declared.column.kind.ColumnKind.{ColumnKind}
-use Rattle.binlog.specs.declared.column.kind.ColumnType.{ColumnType}
 use Rattle.binlog.specs.declared.row_pair.OwnedPair.{OwnedPair}
-use Rattle.binlog.specs.declared.body.rows_event.RowsKind.{RowsKind}
-use Rattle.binlog.specs.declared.column.value.Shape.{Shape}
-use Rattle.binlog.specs.declared.column.value.Shape.TheVariants.{Number, Fixed, Prefixed}
 
 -- ---- Where memory ends.
 

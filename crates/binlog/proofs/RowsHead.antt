@@ -1,25 +1,14 @@
 -- The part of a rows event before its rows.
-use Rattle.std.proofs.Common.{◌≡◌, ℕ, zero, suc, ◌+◌, ◌-◌, ◌<◌, ◌≤◌, ◌^◌, Bool, true, false, not, List, [], ◌∷◌, ◌++◌, length, get_or, take, drop, Option, Some, None, refl, sym, ap, subst, ◌∙◌, append_assoc, arith, inl, inr}
-use Rattle.std.specs.Prelude.{nat_lt, nat_le}
-use Rattle.std.specs.List.{list_all, range_with_len}
-use Rattle.std.proofs.Math.Seq.{take-add}
-use Rattle.std.proofs.lemmas.Bool.{le-ltb, le-leb, cases_Bool, cases_lt, false≢true, not-false, ltb-false, leb-true}
-use Rattle.std.proofs.lemmas.List.{length-append, length-drop, length-take, take-append-drop, take_at}
+use Rattle.binlog.proofs.Names.{◌≡◌, ℕ, zero, suc, ◌+◌, ◌-◌, ◌<◌, ◌≤◌, ◌^◌, Bool, true, false, not, List, [], ◌∷◌, ◌++◌, length, get_or, take, Option, Some, None, refl, sym, ap, subst, ◌∙◌, append_assoc, arith, inl, inr, nat_lt, nat_le, range_with_len, take-add, le-ltb, le-leb, cases_Bool, cases_lt, false≢true, not-false, ltb-false, leb-true, length-append, length-drop, length-take, take-append-drop, take_at, little_bytes, little_number, little_number-reads_back, little_from-lt, length-bytes_low_first, IsLengthEncoded, needs, refuse, number_at, count_width, count_at, bitmap_size, is_set, is_column_count, RowsValue, IsRows, presents_size, Columns, Size, EventFault, RowsKind, Write, Update, Delete, IsBytes, drop_drop, drop_at, drop_front, IsBytes-drop}
+use Rattle.std.proofs.Common.{drop}
+use Rattle.std.specs.List.{list_all}
 use Rattle.std.proofs.lemmas.List.Folds.{list_all_at}
 use Rattle.std.proofs.lemmas.List.FromFn.{length-range_with_len, get_or-range_with_len}
-use Rattle.byteorder.specs.Endian.{little_bytes, little_number}
-use Rattle.byteorder.specs.Numbers.{little_number-reads_back, little_from-lt, length-bytes_low_first}
-use Rattle.wire.specs.Integer.{IsLengthEncoded}
-use Rattle.binlog.specs.Fault.{first_of, needs, refuse, number_at}
-use Rattle.binlog.specs.Count.{count_width, count_at, no_count}
-use Rattle.binlog.specs.Row.{bitmap_size, is_set}
-use Rattle.binlog.specs.Table.{is_column_count}
-use Rattle.binlog.specs.Rows.{RowsValue, AllPresent, ArePresent, IsRows, is_full, present_fault, presents_fault, presents_size, rows_fault}
-use Rattle.binlog.specs.declared.fault.EventFaultKind.TheVariants.{Columns, Partial, Size}
-use Rattle.binlog.specs.declared.fault.EventFault.{EventFault}
-use Rattle.binlog.specs.declared.body.rows_event.RowsKind.{RowsKind}
-use Rattle.binlog.specs.declared.body.rows_event.RowsKind.TheVariants.{Write, Update, Delete}
-use Rattle.wire.proofs.Cuts.{IsBytes, number_at_front, drop_drop, cut, after, drop_at, drop_front, right_7, IsBytes-drop}
+use Rattle.binlog.specs.Fault.{first_of}
+use Rattle.binlog.specs.Count.{no_count}
+use Rattle.binlog.specs.Rows.{AllPresent, ArePresent, is_full, present_fault, presents_fault, rows_fault}
+use Rattle.binlog.specs.declared.fault.EventFaultKind.TheVariants.{Partial}
+use Rattle.wire.proofs.Cuts.{number_at_front, cut, after, right_7}
 use Rattle.binlog.proofs.Tables.{passes, not_refused, is_there}
 use Rattle.binlog.proofs.Counts.{counted, count_not_refused, Counted, is_counted}
 

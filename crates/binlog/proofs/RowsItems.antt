@@ -1,21 +1,8 @@
 -- The rows of a rows event.
-use Rattle.std.proofs.Common.{◌≡◌, ℕ, zero, suc, ◌+◌, ◌-◌, ◌<◌, ◌≤◌, List, [], ◌∷◌, ◌++◌, length, take, drop, map, Result, Ok, Err, refl, sym, ap, subst, ◌∙◌, append_assoc, arith, inl, inr}
-use Rattle.std.proofs.Math.Seq.{take-add}
-use Rattle.std.proofs.lemmas.Bool.{le-ltb, lt-ltb, cases_lt, cases_Bool}
-use Rattle.std.proofs.lemmas.List.{length-append, length-drop, length-take, take-append-drop, append-nil}
-use Rattle.byteorder.specs.Endian.{little_number}
-use Rattle.binlog.specs.Cell.{CellValue}
-use Rattle.binlog.specs.Shape.{shape, value_end}
-use Rattle.binlog.specs.Row.{bitmap_size, is_set, IsRow, further, ◌>>=◌, values_end, row_end, row_cells}
-use Rattle.binlog.specs.Rows.{PairValue, inserted, deleted, updated, IsPair, AreRows, pair_end, EndsEarly, AreItemsAt, reached, pair_of, item_front, items_of}
-use Rattle.binlog.specs.declared.column.kind.ColumnKind.{ColumnKind}
-use Rattle.binlog.specs.declared.fault.EventFault.{EventFault}
-use Rattle.binlog.specs.declared.fault.EventFaultKind.TheVariants.{Truncated}
-use Rattle.binlog.specs.declared.body.rows_event.RowsKind.{RowsKind}
-use Rattle.binlog.specs.declared.body.rows_event.RowsKind.TheVariants.{Write, Update, Delete}
-use Rattle.binlog.specs.declared.column.value.Shape.{Shape}
-use Rattle.binlog.specs.declared.column.value.Shape.TheVariants.{Number, Fixed, Prefixed}
-use Rattle.wire.proofs.Cuts.{IsBytes, IsBytes-drop, drop_front}
+use Rattle.binlog.proofs.Names.{◌≡◌, ℕ, zero, suc, ◌+◌, ◌-◌, ◌<◌, ◌≤◌, List, [], ◌∷◌, ◌++◌, length, take, map, Result, Ok, Err, refl, sym, ap, subst, ◌∙◌, append_assoc, arith, inl, inr, take-add, le-ltb, lt-ltb, cases_lt, cases_Bool, length-append, length-drop, length-take, take-append-drop, append-nil, little_number, CellValue, shape, value_end, bitmap_size, is_set, further, ◌>>=◌, values_end, row_cells, pair_end, items_of, ColumnKind, EventFault, Truncated, RowsKind, Write, Update, Delete, Shape, Number, Fixed, Prefixed, IsBytes, IsBytes-drop, drop_front}
+use Rattle.std.proofs.Common.{drop}
+use Rattle.binlog.specs.Row.{IsRow, row_end}
+use Rattle.binlog.specs.Rows.{PairValue, inserted, deleted, updated, IsPair, AreRows, EndsEarly, AreItemsAt, reached, pair_of, item_front}
 use Rattle.binlog.proofs.RowEnds.{split_err, pair_stops, pair_stopped}
 use Rattle.binlog.proofs.RowCells.{value_is_there, split_end, row_is_read, row_is_there}
 

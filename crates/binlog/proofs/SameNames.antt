@@ -1,12 +1,10 @@
 -- Lists of one set.
-use Rattle.std.proofs.Common.{◌≡◌, inl, inr, ℕ, Vec, zero, suc, ◌+◌, ◌<◌, true, ◌||◌, List, [], ◌∷◌, length, take, slice_index_or, arith, ap, sym, subst, ◌∙◌}
+use Rattle.binlog.proofs.Names.{◌≡◌, inl, inr, ℕ, zero, suc, ◌+◌, ◌<◌, true, ◌||◌, List, [], ◌∷◌, length, take, arith, ap, sym, subst, ◌∙◌, false≢true, and_parts, and_from, bytes_eq-Decides, Name, name_cmp, is_named_in, AreAmong, name_list}
+use Rattle.std.proofs.Common.{Vec, slice_index_or}
 use Rattle.std.specs.FinSet as set
 use Rattle.std.specs.Cmp.{both_ways}
-use Rattle.std.proofs.lemmas.Bool.{false≢true, and_parts, and_from, or_cases, or_right}
-use Rattle.std.proofs.lemmas.Slice.Eq.{bytes_eq-Decides}
-use Rattle.binlog.specs.Filter.{Name, name_cmp, is_named_in, AreAmong}
-use Rattle.binlog.specs.FilterView.{name_list}
-use Rattle.binlog.proofs.Admitted.{name_cmp_total, name_cmp-same, listed, itself}
+use Rattle.std.proofs.lemmas.Bool.{or_cases, or_right}
+use Rattle.binlog.proofs.TableSets.{name_cmp_total, name_cmp-same, listed, itself}
 
 -- what is listed among the names is listed there
 found : (names of : List Name) → AreAmong names of → (q : Name) → is_named_in q names ≡ true → is_named_in q of ≡ true

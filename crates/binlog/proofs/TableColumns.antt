@@ -1,21 +1,17 @@
 -- The columns of table maps.
-use Rattle.std.proofs.Common.{◌≡◌, ℕ, zero, suc, ◌+◌, ◌-◌, ◌*◌, ◌<◌, ◌≤◌, ◌==◌, false, not, List, [], ◌∷◌, ◌++◌, length, get_or, take, drop, Option, Some, None, refl, sym, ap, ◌∙◌, arith, inl, inr}
+use Rattle.binlog.proofs.Names.{◌≡◌, ℕ, zero, suc, ◌+◌, ◌-◌, ◌*◌, ◌<◌, ◌≤◌, ◌==◌, false, not, List, [], ◌∷◌, ◌++◌, length, get_or, take, Option, Some, None, refl, sym, ap, ◌∙◌, arith, inl, inr, le-ltb, lt-ltb, le-leb, lt-leb, ne_eqb, eq-eqb, cases_lt, length-drop, get_or-drop, take_at, refuse, needs, type_code, metadata, IsColumn, column_fault, count_width, count_at, bitmap_size, is_column_count, metadata_length, ColumnKind, EventFault, EventFaultKind, Truncated, Columns, Metadata, drop_front}
+use Rattle.std.proofs.Common.{drop}
 use Rattle.std.specs.Prelude.{sum_by, is_none, unwrap_or}
-use Rattle.std.proofs.lemmas.Bool.{le-ltb, lt-ltb, le-leb, lt-leb, ne_eqb, eq-eqb, cases_lt}
-use Rattle.std.proofs.lemmas.List.{length-drop, get_or-drop, take_at, drop_all}
+use Rattle.std.proofs.lemmas.List.{drop_all}
 use Rattle.std.proofs.lemmas.List.Sums.{sum_by-cons}
-use Rattle.binlog.specs.Fault.{refuse, needs, first_of}
-use Rattle.binlog.specs.Column.{type_code, metadata, IsColumn, metadata_size, metadata_fault, column_fault}
-use Rattle.binlog.specs.Count.{count_width, count_at, no_count}
-use Rattle.binlog.specs.Row.{bitmap_size}
-use Rattle.binlog.specs.Table.{is_column_count, types_fault, metadata_length, at_place, all_metadata_fault, columns_fault}
+use Rattle.binlog.specs.Fault.{first_of}
+use Rattle.binlog.specs.Column.{metadata_size, metadata_fault}
+use Rattle.binlog.specs.Count.{no_count}
+use Rattle.binlog.specs.Table.{types_fault, at_place, all_metadata_fault, columns_fault}
 use Rattle.binlog.specs.Columns.{kind_of, column_front, columns_of}
-use Rattle.binlog.specs.declared.column.kind.ColumnKind.{ColumnKind}
-use Rattle.binlog.specs.declared.fault.EventFault.{EventFault}
-use Rattle.binlog.specs.declared.fault.EventFaultKind.{EventFaultKind}
-use Rattle.binlog.specs.declared.fault.EventFaultKind.TheVariants.{Truncated, Columns, Metadata, ColumnType as UnknownColumn}
+use Rattle.binlog.specs.declared.fault.EventFaultKind.TheVariants.{ColumnType as UnknownColumn}
 use Rattle.binlog.proofs.Tables.{passes, not_refused}
-use Rattle.wire.proofs.Cuts.{drop_front, one}
+use Rattle.wire.proofs.Cuts.{one}
 use Rattle.binlog.proofs.Columns.{kind_is, known, at_most_two, lawful_size, no_fault, fault_of}
 
 -- ---- One column.

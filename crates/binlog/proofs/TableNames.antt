@@ -1,14 +1,10 @@
 -- The names of table maps, by the whole event.
-use Rattle.std.proofs.Common.{◌≡◌, ℕ, suc, ◌+◌, ◌-◌, ◌<◌, ◌≤◌, List, ◌∷◌, ◌++◌, length, get_or, take, drop, None, refl, sym, ap, ◌∙◌, arith}
-use Rattle.std.proofs.lemmas.Bool.{le-ltb}
-use Rattle.std.proofs.lemmas.List.{length-drop, length-take, get_or-drop, take_at}
-use Rattle.byteorder.specs.Endian.{little_bytes, little_number}
-use Rattle.byteorder.specs.Numbers.{little_number-reads_back, little_from-lt}
-use Rattle.binlog.specs.Fault.{needs, number_at}
-use Rattle.binlog.specs.Table.{IsNamed, table_place, terminator_place, named_schema, named_table, names_fault}
+use Rattle.binlog.proofs.Names.{◌≡◌, ℕ, suc, ◌+◌, ◌-◌, ◌<◌, ◌≤◌, List, ◌∷◌, ◌++◌, length, get_or, take, None, refl, sym, ap, ◌∙◌, arith, le-ltb, length-drop, length-take, get_or-drop, take_at, little_bytes, little_number, little_number-reads_back, little_from-lt, needs, number_at, IsNamed, terminator_place, IsBytes, first_left, drop_drop, drop_front}
+use Rattle.std.proofs.Common.{drop}
+use Rattle.binlog.specs.Table.{table_place, named_schema, named_table, names_fault}
 use Rattle.binlog.specs.Columns.{HasNames}
 use Rattle.binlog.proofs.Tables.{passes, is_there}
-use Rattle.wire.proofs.Cuts.{IsBytes, first_left, number_at_front, drop_drop, cut, one, after, drop_front, right_5}
+use Rattle.wire.proofs.Cuts.{number_at_front, cut, one, after, right_5}
 
 -- a byte at an offset, and what follows it
 pub one_at : (n m : ℕ) (xs : List ℕ) → m ≡ suc n → n < length xs → drop n xs ≡ get_or xs n 0 ∷ drop m xs

@@ -1,11 +1,6 @@
 -- Tables of refusals.
-use Rattle.std.proofs.Common.{◌≡◌, ℕ, ◌+◌, ◌≤◌, Bool, true, false, List, ◌∷◌, length, Option, Some, None, refl}
-use Rattle.std.proofs.lemmas.Bool.{ltb-false}
-use Rattle.std.specs.Prelude.{nat_lt}
-use Rattle.binlog.specs.Fault.{refuse, needs, first_of}
-use Rattle.binlog.specs.declared.fault.EventFaultKind.{EventFaultKind}
-use Rattle.binlog.specs.declared.fault.EventFault.{EventFault}
-use Rattle.binlog.specs.declared.fault.EventFaultKind.TheVariants.{Truncated}
+use Rattle.binlog.proofs.Names.{◌≡◌, ℕ, ◌+◌, ◌≤◌, Bool, true, false, List, ◌∷◌, length, Option, Some, None, refl, ltb-false, nat_lt, refuse, needs, EventFaultKind, EventFault, Truncated}
+use Rattle.binlog.specs.Fault.{first_of}
 
 -- a table without a fault has none in its first line, and none in the lines after it
 pub passes : (line : Option EventFault) (lines : List (Option EventFault)) → first_of (line ∷ lines) ≡ None → (line ≡ None) × (first_of lines ≡ None)

@@ -1,24 +1,15 @@
 -- The columns of table maps: from the bytes to the types and back.
-use Rattle.std.proofs.Common.{◌≡◌, ℕ, suc, ◌+◌, ◌-◌, ◌≤◌, ◌==◌, not, List, [], ◌∷◌, ◌++◌, length, get_or, take, drop, map, Option, Some, None, refl, sym, ap, subst, ◌∙◌, append_assoc, arith}
-use Rattle.std.specs.Prelude.{flat_map, sum_by, nat_le}
-use Rattle.std.proofs.Math.Seq.{take-add}
-use Rattle.std.proofs.lemmas.Bool.{not-false, and_parts, leb-true, eqb-true}
-use Rattle.std.proofs.lemmas.List.{length-append, length-drop, length-take, length-map, get_or-drop, take_at, take-append-drop, append-nil, map-append}
+use Rattle.binlog.proofs.Names.{◌≡◌, ℕ, suc, ◌+◌, ◌-◌, ◌≤◌, ◌==◌, not, List, [], ◌∷◌, ◌++◌, length, get_or, take, map, Option, Some, None, refl, sym, ap, subst, ◌∙◌, append_assoc, arith, flat_map, nat_le, take-add, not-false, and_parts, leb-true, eqb-true, length-append, length-drop, length-take, length-map, get_or-drop, take_at, take-append-drop, append-nil, IsLengthEncoded, refuse, needs, count_width, count_at, bitmap_size, kinds, type_code, metadata, IsColumn, column_fault, AreColumns, is_column_count, metadata_length, columns_at, ColumnKind, ColumnType, EventFault, EventFaultKind, Columns, Metadata, IsBytes, drop_drop, drop_front, drop_at}
+use Rattle.std.proofs.Common.{drop}
+use Rattle.std.specs.Prelude.{sum_by}
+use Rattle.std.proofs.lemmas.List.{map-append}
 use Rattle.std.proofs.lemmas.List.Sums.{sum_by-cons}
-use Rattle.wire.specs.Integer.{IsLengthEncoded}
-use Rattle.binlog.specs.Fault.{refuse, needs}
-use Rattle.binlog.specs.Count.{count_width, count_at, no_count}
-use Rattle.binlog.specs.Row.{bitmap_size, kinds}
-use Rattle.binlog.specs.Column.{type_code, metadata, IsColumn, metadata_fault, column_fault}
-use Rattle.binlog.specs.Table.{AreColumns, is_column_count, types_fault, metadata_length, at_place, all_metadata_fault, codes_at, measure_place, metadata_place, columns_fault}
-use Rattle.binlog.specs.Columns.{columns_of, columns_at, HasColumns}
-use Rattle.binlog.specs.declared.column.kind.ColumnKind.{ColumnKind}
-use Rattle.binlog.specs.declared.column.kind.ColumnType.{ColumnType}
-use Rattle.binlog.specs.declared.fault.EventFault.{EventFault}
-use Rattle.binlog.specs.declared.fault.EventFaultKind.{EventFaultKind}
-use Rattle.binlog.specs.declared.fault.EventFaultKind.TheVariants.{Columns, Metadata}
+use Rattle.binlog.specs.Count.{no_count}
+use Rattle.binlog.specs.Column.{metadata_fault}
+use Rattle.binlog.specs.Table.{types_fault, at_place, all_metadata_fault, codes_at, measure_place, metadata_place, columns_fault}
+use Rattle.binlog.specs.Columns.{columns_of, HasColumns}
 use Rattle.binlog.proofs.Tables.{passes, not_refused, is_there}
-use Rattle.wire.proofs.Cuts.{IsBytes, drop_drop, drop_front, drop_at, cut, right_6}
+use Rattle.wire.proofs.Cuts.{cut, right_6}
 use Rattle.binlog.proofs.Columns.{lawful_size, no_fault, some_column}
 use Rattle.binlog.proofs.Counts.{counted, count_not_refused, some_bytes, is_counted}
 use Rattle.binlog.proofs.LawfulColumns.{AllLawful}

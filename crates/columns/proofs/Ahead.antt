@@ -1,17 +1,13 @@
 -- What lies ahead of a reader of lines, if the text is that of these columns.
-use Rattle.std.proofs.Common.{◌≡◌, ℕ, ◌<◌, Bool, true, false, not, List, [], ◌∷◌, ◌++◌, length, drop, refl, ap, sym, subst, ◌∙◌, arith, append_assoc, append-nil}
+use Rattle.columns.proofs.Names.{◌≡◌, ℕ, ◌<◌, Bool, true, false, not, List, [], ◌∷◌, ◌++◌, length, refl, ap, sym, subst, ◌∙◌, arith, append_assoc, append-nil, list_any, AllByRecursion, bytes_eq, map-append, flat_map-append, ColumnValue, column_text, IsDescribedColumn, set_text, is_inner, Are, Ends, lines_text, column_values, column_names, AreDescribedColumns, BeginsNot, DescribedTableValue, IsTable, table_front, Client}
+use Rattle.std.proofs.Common.{drop}
 use Rattle.std.specs.Prelude.{◌||◌}
-use Rattle.std.specs.List.{list_any, AllByRecursion, IsDistinct}
-use Rattle.std.specs.Str.{bytes_eq}
-use Rattle.std.proofs.lemmas.List.{map-append}
-use Rattle.std.proofs.lemmas.Grind.{flat_map-append}
+use Rattle.std.specs.List.{IsDistinct}
 use Rattle.columns.specs.Escapes.{escaped}
-use Rattle.columns.specs.Lines.{ColumnValue, column_text, column_value, IsDescribedColumn, field, set_text, is_inner}
+use Rattle.columns.specs.Lines.{column_value, field}
 use Rattle.columns.specs.Keys.{key_text}
 use Rattle.columns.specs.ColumnTypes.{column_type_text}
-use Rattle.columns.specs.Word.{Are, Ends}
-use Rattle.columns.specs.Descriptions.{lines_text, column_values, column_names, AreDescribedColumns, BeginsNot, DescribedTableValue, IsTable, table_text, table_front}
-use Rattle.columns.specs.declared.escape.Layer.TheVariants.{Client}
+use Rattle.columns.specs.Descriptions.{table_text}
 use Rattle.columns.specs.declared.column.Column.{Column}
 use Rattle.columns.proofs.FieldCuts.{same_test, field_cut}
 

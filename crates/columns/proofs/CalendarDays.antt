@@ -1,7 +1,6 @@
 -- The days of years and months, and the date that they lead to.
-use Rattle.std.proofs.Common.{◌≡◌, ℕ, zero, suc, ◌+◌, ◌-◌, ◌<◌, ◌≤◌, ◌⊎◌, inl, inr, ◌==◌, ◌||◌, Bool, true, false, if◌then◌else◌, refl, sym, ap, subst, ◌∙◌, arith}
-use Rattle.std.proofs.lemmas.Bool.{cases_lt}
-use Rattle.columns.specs.Calendar.{is_leap, year_length, month_length, year_from, month_from, year_of, month_of}
+use Rattle.columns.proofs.Names.{◌≡◌, ℕ, zero, suc, ◌+◌, ◌-◌, ◌<◌, ◌≤◌, ◌⊎◌, inl, inr, ◌==◌, ◌||◌, Bool, true, false, if◌then◌else◌, refl, sym, ap, subst, ◌∙◌, arith, cases_lt, year_length, month_length, year_of, month_of}
+use Rattle.columns.specs.Calendar.{is_leap, year_from, month_from}
 use Rattle.columns.specs.CalendarDays.{years_days, months_days, IsDayOf}
 use Rattle.columns.proofs.CalendarSteps.{year_stops, year_goes_on, year_ends, month_stops, month_goes_on, month_ends}
 

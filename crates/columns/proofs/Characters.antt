@@ -1,12 +1,11 @@
 -- Texts character by character.
+use Rattle.columns.proofs.Names.{encode_utf8, ◌≡◌, ℕ, zero, suc, ◌+◌, ◌<◌, Bool, true, false, List, [], ◌∷◌, ◌++◌, length, length-append, nat_lt, refl, sym, ◌∙◌, ap, subst, append_assoc, arith, IsUtf8, latin1_character}
 use Rattle.std.proofs.lemmas.List.{append-nil}
 use Rattle.std.specs.Bool.{IsTrue}
-use Rattle.std.specs.Char.{encode_utf8}
-use Rattle.std.proofs.Common.{◌≡◌, ℕ, zero, suc, ◌+◌, ◌<◌, Bool, true, false, List, [], ◌∷◌, ◌++◌, length, length-append, nat_lt, refl, sym, ◌∙◌, ap, subst, append_assoc, arith}
 use Rattle.std.specs.List.{list_all}
-use Rattle.std.specs.Str.{IsAscii, IsUtf8}
+use Rattle.std.specs.Str.{IsAscii}
 use Rattle.std.proofs.lemmas.Str.{IsUtf8-from_ascii}
-use Rattle.columns.specs.CharacterSets.{written, latin1_character, wide_bytes, has_character, IsSpelled}
+use Rattle.columns.specs.CharacterSets.{written, wide_bytes, has_character, IsSpelled}
 use Rattle.columns.specs.declared.wide.Wide.{Wide}
 use Rattle.columns.specs.declared.wide.Wide.TheVariants.{TwoBytes, Units, LittleUnits, FourBytes}
 

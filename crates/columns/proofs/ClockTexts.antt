@@ -1,13 +1,10 @@
 -- The text of a time of day, cut after its hours.
-use Rattle.std.proofs.Common.{◌≡◌, ℕ, suc, ◌-◌, ◌^◌, ◌<◌, ◌≤◌, zero, List, [], ◌∷◌, ◌++◌, length, get_or, replicate, decimal, sym, ap, subst, ◌∙◌, arith, append_assoc}
-use Rattle.std.specs.Prelude.{IsTrue}
-use Rattle.std.specs.Str.Parse.{AllDigits, IsNumeral}
+use Rattle.columns.proofs.Names.{◌≡◌, ℕ, suc, ◌-◌, ◌^◌, ◌<◌, ◌≤◌, zero, List, [], ◌∷◌, ◌++◌, length, get_or, replicate, sym, ap, subst, ◌∙◌, arith, append_assoc, IsTrue, AllDigits, IsNumeral, length-decimal-le, zero_padded, clock_text, fraction_text, IsClockRange}
+use Rattle.std.proofs.Common.{decimal}
 use Rattle.std.specs.Char.{digit_value}
-use Rattle.std.proofs.lemmas.Fmt.{length-decimal-le}
-use Rattle.columns.specs.Text.{zero_padded}
-use Rattle.columns.specs.Times.{clock_text, fraction_text, is_clock}
+use Rattle.columns.specs.Times.{is_clock}
 use Rattle.columns.specs.Dates.{is_date}
-use Rattle.columns.specs.FieldForms.{clock_front, IsDateRange, IsClockRange}
+use Rattle.columns.specs.FieldForms.{clock_front, IsDateRange}
 use Rattle.columns.proofs.FieldDigits.{padded_is, padded_long, decimal_is, whole_small}
 
 pub clock_split : (hour minute second digits number : ℕ) → clock_text hour minute second digits number ≡ zero_padded 2 hour ++ (clock_front minute second ++ fraction_text digits number)

@@ -1,6 +1,5 @@
 -- Texts that are codes in a row: they are read in one way.
-use Rattle.std.proofs.Common.{◌≡◌, ℕ, List, [], ◌∷◌, ◌++◌, refl, sym, subst, ◌∙◌, append_assoc}
-use Rattle.std.specs.List.{flat_map, AllByRecursion}
+use Rattle.columns.proofs.Names.{◌≡◌, ℕ, List, [], ◌∷◌, ◌++◌, refl, sym, subst, ◌∙◌, append_assoc, flat_map, AllByRecursion}
 
 -- A text that begins with the code of one and goes on well is cut after that code in one way.
 pub record IsCode (A : Type 0) (IsOne : A → Type 0) (GoesOn : List ℕ → Type 0) (code : A → List ℕ) : Type 0 where

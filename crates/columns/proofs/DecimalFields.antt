@@ -1,21 +1,16 @@
 -- Decimal digits of a text, and the digits of a value.
-use Rattle.std.proofs.Common.{◌≡◌, ℕ, zero, suc, ◌+◌, ◌-◌, ◌<◌, ◌≤◌, ◌==◌, Bool, true, false, if◌then◌else◌, List, [], ◌∷◌, ◌++◌, length, take, drop, replicate, refl, sym, ap, subst, ◌∙◌, arith, append_assoc, length-append, take-take, ◌&&◌}
-use Rattle.std.specs.Prelude.{IsTrue}
-use Rattle.std.specs.Str.Parse.{AllDigits, IsNumeral}
+use Rattle.columns.proofs.Names.{◌≡◌, ℕ, zero, suc, ◌+◌, ◌-◌, ◌<◌, ◌≤◌, ◌==◌, Bool, true, false, if◌then◌else◌, List, [], ◌∷◌, ◌++◌, length, take, replicate, refl, sym, ap, subst, ◌∙◌, arith, append_assoc, length-append, ◌&&◌, IsTrue, AllDigits, IsNumeral, decimal_digit, ne_eqb, length-map, length-replicate, length-take-le, length-drop, map-append, take-append-drop, take-append_seam, are_digits, are_zeros, digits_text, sign_part, Sign}
+use Rattle.std.proofs.Common.{drop, take-take}
 use Rattle.std.specs.Char.{digit_value}
 use Rattle.std.proofs.lemmas.Str.{digit_value_digit}
 use Rattle.std.proofs.lemmas.Str.Parse.{digit_from_value}
-use Rattle.std.proofs.lemmas.Fmt.{decimal_digit}
-use Rattle.std.proofs.lemmas.Bool.{ne_eqb}
-use Rattle.std.proofs.lemmas.List.{length-map, length-replicate, length-take-le, length-drop, map-append, take-append-drop}
-use Rattle.std.proofs.Math.Seq.{take-append_seam, drop-append_seam}
-use Rattle.columns.specs.Decimals.{are_digits, are_zeros, digits_text, significant, sign_part, fraction_part, decimal_text, filled_width}
+use Rattle.std.proofs.Math.Seq.{drop-append_seam}
+use Rattle.columns.specs.Decimals.{significant, fraction_part, decimal_text, filled_width}
 use Rattle.columns.specs.Reals.{minus_part}
 use Rattle.columns.specs.PlainTexts.{shown_decimal}
 use Rattle.columns.specs.FieldDecimals.{point_part, whole_digits, fraction_digits, IsPointed, IsNoMinusZero, IsDecimalField}
 use Rattle.columns.specs.FieldPoints.{without_zeros, digit_values}
 use Rattle.columns.specs.declared.value.decimal.Decimal.{Decimal}
-use Rattle.columns.specs.declared.sign.Sign.{Sign}
 use Rattle.columns.specs.declared.sign.Sign.TheVariants.{Signed, Unsigned, Zerofill}
 use Rattle.columns.proofs.Types.{never, and_parts}
 use Rattle.columns.proofs.DigitNumbers.{digit_small, digits_rest, digits_more, digits_append, digits_take, digits_drop, text_long, significant_digits, same_zeros}

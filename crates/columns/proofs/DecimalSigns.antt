@@ -1,13 +1,10 @@
 -- The sign of a decimal number in its bytes.
-use Rattle.std.proofs.Common.{◌≡◌, ℕ, zero, suc, ◌+◌, ◌-◌, ◌%◌, ◌^◌, ◌<◌, ◌≤◌, Bool, true, false, nat_lt, List, [], ◌∷◌, ◌++◌, length, get_or, take, drop, map, replicate, sum, refl, sym, ap, ◌∙◌, arith, subst}
-use Rattle.std.specs.Prelude.{IsTrue}
-use Rattle.std.proofs.lemmas.Bool.{lt-ltb, le-ltb}
-use Rattle.std.proofs.lemmas.List.Sums.{sum_by-cons}
-use Rattle.std.proofs.lemmas.List.{length-map, length-drop, length-take-le, length-replicate}
-use Rattle.byteorder.specs.Endian.{big_bytes}
+use Rattle.columns.proofs.Names.{◌≡◌, ℕ, zero, suc, ◌+◌, ◌-◌, ◌%◌, ◌^◌, ◌<◌, ◌≤◌, Bool, true, false, nat_lt, List, [], ◌∷◌, ◌++◌, length, get_or, take, map, replicate, sum, refl, sym, ap, ◌∙◌, arith, subst, IsTrue, lt-ltb, sum_by-cons, length-map, length-drop, length-take-le, length-replicate, big_bytes, are_digits, are_zeros, digits_number, group_size, group_digits, decimal_bytes}
+use Rattle.std.proofs.Common.{drop}
+use Rattle.std.proofs.lemmas.Bool.{le-ltb}
 use Rattle.byteorder.specs.Numbers.{length-bytes_high_first}
 use Rattle.wire.proofs.Cuts.{IsBytes, IsBytes-rest}
-use Rattle.columns.specs.Decimals.{are_digits, are_zeros, digits_number, group_size, groups_bytes, group_digits, part_size, decimal_size, decimal_bytes, inverted, top_flipped}
+use Rattle.columns.specs.Decimals.{groups_bytes, part_size, decimal_size, inverted, top_flipped}
 use Rattle.columns.proofs.Bytes.{byte_at-pow}
 use Rattle.columns.proofs.DigitNumbers.{number_small, digits_take, same_zeros}
 use Rattle.columns.proofs.DigitGroups.{groups_long, size_is, sum_is, sizes_small}

@@ -1,8 +1,7 @@
 -- So many digits at the front of a text.
-use Rattle.std.proofs.Common.{◌≡◌, ℕ, zero, suc, ◌^◌, ◌<◌, ◌≤◌, List, [], ◌++◌, length, take, drop, sym, ap, subst, ◌∙◌, arith, take_all, take-append-drop}
+use Rattle.columns.proofs.Names.{◌≡◌, ℕ, zero, suc, ◌^◌, ◌<◌, ◌≤◌, List, [], ◌++◌, length, take, sym, ap, subst, ◌∙◌, arith, take_all, zero_padded, IsDigitsOf}
+use Rattle.std.proofs.Common.{drop, take-append-drop}
 use Rattle.std.proofs.lemmas.List.{drop_all, take-append-le, drop-append-le}
-use Rattle.columns.specs.Text.{zero_padded}
-use Rattle.columns.specs.Fields.{IsDigitsOf}
 use Rattle.columns.proofs.FieldDigits.{padded_is, padded_long, whole_small, is_padded}
 
 pub tens_small : (k : ℕ) → k ≤ 6 → 10 ^ k ≤ 1000000

@@ -1,12 +1,10 @@
 -- Groups of digits, and their bytes.
-use Rattle.std.proofs.Common.{◌≡◌, ℕ, zero, suc, ◌+◌, ◌-◌, ◌*◌, ◌/◌, ◌%◌, ◌^◌, ◌<◌, ◌≤◌, List, [], ◌∷◌, ◌++◌, length, get_or, take, drop, set, replicate, sum, refl, sym, ap, subst, ◌∙◌, arith, append_assoc, take_all, lt_of_lt_of_le}
-use Rattle.std.specs.Prelude.{IsTrue}
-use Rattle.std.proofs.Math.Seq.{drop-append_seam, take-append_seam}
-use Rattle.std.proofs.lemmas.List.{length-append, length-take-le, length-drop, length-replicate, replicate-append-replicate, drop-drop, take_more_set}
-use Rattle.std.proofs.lemmas.List.Sums.{sum_by-cons}
-use Rattle.byteorder.specs.Endian.{big_bytes}
+use Rattle.columns.proofs.Names.{◌≡◌, ℕ, zero, suc, ◌+◌, ◌-◌, ◌*◌, ◌/◌, ◌%◌, ◌^◌, ◌<◌, ◌≤◌, List, [], ◌∷◌, ◌++◌, length, get_or, take, set, replicate, sum, refl, sym, ap, subst, ◌∙◌, arith, append_assoc, take_all, IsTrue, take-append_seam, length-take-le, length-drop, length-replicate, sum_by-cons, big_bytes, are_digits, digits_number, group_size, groups_size, group_digits}
+use Rattle.std.proofs.Common.{drop, lt_of_lt_of_le}
+use Rattle.std.proofs.Math.Seq.{drop-append_seam}
+use Rattle.std.proofs.lemmas.List.{length-append, replicate-append-replicate, drop-drop, take_more_set}
 use Rattle.byteorder.specs.Numbers.{length-bytes_high_first}
-use Rattle.columns.specs.Decimals.{are_digits, digits_number, group_size, groups_size, decimal_size, group_digits, groups_bytes}
+use Rattle.columns.specs.Decimals.{decimal_size, groups_bytes}
 use Rattle.columns.proofs.DigitNumbers.{number_small, group_fits, digits_take, digits_drop}
 
 -- a list of one at least, as a first one and the others

@@ -1,11 +1,8 @@
 -- Decimal digits, and the numbers that they are.
-use Rattle.std.proofs.Common.{◌≡◌, ℕ, zero, suc, ◌+◌, ◌*◌, ◌/◌, ◌^◌, ◌<◌, ◌≤◌, nat_lt, nat_eq, set, List, [], ◌∷◌, ◌++◌, length, take, drop, refl, sym, ap, ◌∙◌, arith, mul-le-mul_right, subst, decimal, length-append}
-use Rattle.std.specs.Prelude.{IsTrue}
-use Rattle.std.proofs.Math.Nat.{pow-suc, one-le-pow, div-lt_iff_lt-mul}
-use Rattle.std.proofs.lemmas.Nat.{div-mul-add}
-use Rattle.std.proofs.lemmas.Bool.{lt-ltb, ne_eqb}
-use Rattle.std.proofs.lemmas.Fmt.{decimal_digit}
-use Rattle.columns.specs.Decimals.{are_digits, are_zeros, digits_number, group_size, digits_text, significant}
+use Rattle.columns.proofs.Names.{◌≡◌, ℕ, zero, suc, ◌+◌, ◌*◌, ◌/◌, ◌^◌, ◌<◌, ◌≤◌, nat_lt, set, List, [], ◌∷◌, ◌++◌, length, take, refl, sym, ap, ◌∙◌, arith, subst, length-append, IsTrue, one-le-pow, div-mul-add, lt-ltb, ne_eqb, decimal_digit, are_digits, are_zeros, digits_number, group_size, digits_text}
+use Rattle.std.proofs.Common.{nat_eq, drop, mul-le-mul_right, decimal}
+use Rattle.std.proofs.Math.Nat.{pow-suc, div-lt_iff_lt-mul}
+use Rattle.columns.specs.Decimals.{significant}
 use Rattle.columns.proofs.Types.{and_parts, le_of}
 
 pub digit_small : (d : ℕ) (digits : List ℕ) → IsTrue (are_digits (d ∷ digits)) → d < 10

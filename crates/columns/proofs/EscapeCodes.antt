@@ -1,15 +1,12 @@
 -- What stands for a byte is cut off in one way.
-use Rattle.std.proofs.Common.{◌≡◌, ℕ, suc, ◌<◌, ◌/◌, ◌%◌, ◌⊎◌, inl, inr, Bool, true, false, if◌then◌else◌, List, [], ◌∷◌, ◌++◌, length, drop, get_or, refl, ap, sym, ◌∙◌, Option, Some, None, arith, length-append, append-nil, append_assoc, ◌+◌, ◌-◌, ◌≤◌, take, add-one}
+use Rattle.columns.proofs.Names.{◌≡◌, ℕ, suc, ◌<◌, ◌/◌, ◌%◌, ◌⊎◌, inl, inr, Bool, true, false, if◌then◌else◌, List, [], ◌∷◌, ◌++◌, length, get_or, refl, ap, sym, ◌∙◌, Option, Some, None, arith, length-append, append-nil, append_assoc, ◌+◌, ◌-◌, ◌≤◌, take, AllByRecursion, eqb-true, take-append-drop, length-drop, flat_map-append, Client, Quoted}
+use Rattle.std.proofs.Common.{drop, add-one}
 use Rattle.std.specs.Prelude.{◌==◌, IfNone}
 use Rattle.std.specs.Char.{digit_char}
-use Rattle.std.specs.List.{AllByRecursion}
-use Rattle.std.proofs.lemmas.Bool.{eqb-true}
-use Rattle.std.proofs.lemmas.List.{take_rest, take-append-drop, get_or-take, get_or-drop, length-take, length-drop}
+use Rattle.std.proofs.lemmas.List.{take_rest, get_or-take, get_or-drop, length-take}
 use Rattle.std.proofs.Math.Seq.{take-add, take-suc}
-use Rattle.std.proofs.lemmas.Grind.{flat_map-append}
 use Rattle.columns.specs.Escapes.{escape, escaped, hex_pair, BeginsWithCode, BeginsWithNone}
 use Rattle.columns.specs.declared.escape.Layer.{Layer}
-use Rattle.columns.specs.declared.escape.Layer.TheVariants.{Client, Quoted}
 use Rattle.columns.proofs.Codes.{IsCode, one_way}
 
 either : (t : Bool) (x y : List ℕ) (P : List ℕ → Type 0) → P x → P y → P (if t then x else y)

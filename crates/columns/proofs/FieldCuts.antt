@@ -1,20 +1,15 @@
 -- The fields of a line are cut in one way.
-use Rattle.std.proofs.Common.{◌≡◌, ℕ, Bool, true, false, not, if◌then◌else◌, List, [], ◌∷◌, ◌++◌, refl, ap, sym, ◌∙◌, arith, append_assoc}
-use Rattle.std.specs.Prelude.{◌==◌, ◌||◌, IsTrue, Option, Some, None, is_some, codes, cond}
+use Rattle.columns.proofs.Names.{◌≡◌, ℕ, Bool, true, false, not, if◌then◌else◌, List, [], ◌∷◌, ◌++◌, refl, ap, sym, ◌∙◌, arith, append_assoc, IsTrue, codes, bytes_eq, other_text, list_any, Bor, HasSeen, Are, Ends, is_inner, set_text, Client}
+use Rattle.std.specs.Prelude.{◌==◌, ◌||◌, Option, Some, None, is_some, cond}
 use Rattle.std.proofs.Common.{String}
 use Rattle.std.proofs.Common.{Global}
-use Rattle.std.specs.Str.{is_utf8, chars, bytes_eq}
+use Rattle.std.specs.Str.{is_utf8, chars}
 use Rattle.std.specs.Ordering.{is_eq, nat_cmp}
-use Rattle.std.specs.Cmp.Lexicographic.{slice_cmp, same_text, other_text}
+use Rattle.std.specs.Cmp.Lexicographic.{slice_cmp, same_text}
 use Rattle.std.proofs.lemmas.Map.Text.{is_eq-slice_cmp}
 use Rattle.std.proofs.lemmas.List.Folds.{list_any-append}
-use Rattle.std.specs.List.{list_any}
-use Rattle.std.proofs.Common.{Bor}
-use Rattle.columns.specs.Seen.{HasSeen}
-use Rattle.columns.specs.Word.{Are, Ends}
 use Rattle.columns.specs.Escapes.{escape, escaped}
-use Rattle.columns.specs.Lines.{is_inner, is_separator, field, set_text, option_bytes, IsSet, IsName}
-use Rattle.columns.specs.declared.escape.Layer.TheVariants.{Client}
+use Rattle.columns.specs.Lines.{is_separator, field, option_bytes, IsSet, IsName}
 use Rattle.columns.proofs.Words.{one_cut}
 use Rattle.columns.proofs.Types.{never}
 

@@ -1,14 +1,12 @@
 -- Decimal digits of a text, and the number that they are.
-use Rattle.std.proofs.Common.{◌≡◌, ℕ, zero, suc, ◌+◌, ◌-◌, ◌*◌, ◌^◌, ◌<◌, List, [], ◌∷◌, ◌++◌, length, take, replicate, get_or, decimal, refl, sym, subst, ◌∙◌, arith, length-append}
-use Rattle.std.specs.Str.Parse.{AllDigits, digits_value, digits_value_after}
+use Rattle.columns.proofs.Names.{◌≡◌, ℕ, zero, suc, ◌+◌, ◌-◌, ◌*◌, ◌^◌, ◌<◌, List, [], ◌∷◌, ◌++◌, length, take, replicate, get_or, refl, sym, subst, ◌∙◌, arith, length-append, AllDigits, length-decimal-le, length-replicate, zero_padded, IsDigitsOf}
+use Rattle.std.proofs.Common.{decimal}
+use Rattle.std.specs.Str.Parse.{digits_value, digits_value_after}
 use Rattle.std.specs.Char.{digit_value}
 use Rattle.std.proofs.lemmas.Int.Digits.{digits_value-lt}
 use Rattle.std.proofs.lemmas.Str.{digit_value_digit}
 use Rattle.std.proofs.lemmas.Str.Parse.{digit_from_value}
-use Rattle.std.proofs.lemmas.Fmt.{decimal_is_IsNumeral, length-decimal-le}
-use Rattle.std.proofs.lemmas.List.{length-replicate}
-use Rattle.columns.specs.Text.{zero_padded}
-use Rattle.columns.specs.Fields.{IsDigitsOf}
+use Rattle.std.proofs.lemmas.Fmt.{decimal_is_IsNumeral}
 
 pub one_digit_more : (i : ℕ) (text : List ℕ) → i < length text → AllDigits 10 (take i text) → digit_value (get_or text i 0) < 10 → AllDigits 10 (take (suc i) text)
 one_digit_more i [] below digits next = absurd (omega (arith, below))

@@ -1,9 +1,8 @@
 -- Floats that are finite.
-use Rattle.std.proofs.Common.{◌≡◌, ℕ, zero, suc, ◌/◌, ◌%◌, ◌<◌, Bool, true, not, leb, T, refl, arith, ◌≤◌, ◌⊎◌, inl, inr, false, cond, eqb, sym, ap, ◌∙◌}
-use Rattle.std.specs.Prelude.{IsTrue}
-use Rattle.std.specs.Float.{float_is_finite, binary32, binary64}
-use Rattle.std.specs.Float.Ieee.{Float, Format, is_nan, nan, inf, fin, odd, of_fields, of_bits, ones, top, hid}
-use Rattle.std.proofs.lemmas.Bool.{ne_eqb, cases_lt}
+use Rattle.columns.proofs.Names.{◌≡◌, ℕ, zero, suc, ◌/◌, ◌%◌, ◌<◌, Bool, true, not, T, refl, arith, ◌≤◌, ◌⊎◌, inl, inr, false, sym, ap, ◌∙◌, IsTrue, binary32, binary64, Float, ne_eqb, cases_lt}
+use Rattle.std.proofs.Common.{leb, cond, eqb}
+use Rattle.std.specs.Float.{float_is_finite}
+use Rattle.std.specs.Float.Ieee.{Format, is_nan, nan, inf, fin, odd, of_fields, of_bits, ones, top, hid}
 use Rattle.columns.proofs.Types.{never}
 
 odd_finite : (d : ℕ) (s : Bool) (n k l : ℕ) → float_is_finite (odd d s n k l) ≡ true

@@ -1,7 +1,5 @@
 -- Fractions of a second.
-use Rattle.std.proofs.Common.{ℕ, zero, suc, ◌^◌, ◌<◌, ◌≤◌, nat_le, nat_lt, arith}
-use Rattle.std.specs.Prelude.{IsTrue}
-use Rattle.columns.specs.Times.{is_fraction, fraction_size, even_digits}
+use Rattle.columns.proofs.Names.{ℕ, zero, suc, ◌^◌, ◌<◌, ◌≤◌, nat_le, nat_lt, arith, IsTrue, is_fraction, fraction_size, even_digits}
 use Rattle.columns.proofs.Types.{and_parts, le_of}
 
 pub digits_of : (digits number : ℕ) → IsTrue (is_fraction digits number) → digits ≤ 6

@@ -1,8 +1,9 @@
+mod Names
 pub mod Numerals
 pub mod Words
 pub mod Types
 pub mod Bytes
-pub mod Padded
+pub mod LeadingZeros
 pub mod FieldDigits
 pub mod DigitCuts
 pub mod ClockTexts

@@ -1,18 +1,15 @@
 -- A member is cut off a text in one way, and so are members in a row.
-use Rattle.std.proofs.Common.{◌≡◌, ℕ, ◌+◌, ◌/◌, ◌<◌, ◌≤◌, ◌⊎◌, inl, inr, Bool, true, false, if◌then◌else◌, List, [], ◌∷◌, ◌++◌, length, drop, get_or, refl, ap, sym, subst, ◌∙◌, arith, append_assoc, append-nil, length-append, ◌-◌, take, add-one}
-use Rattle.std.specs.Prelude.{codes, ◌==◌, nat_lt, IsSomeAnd, Option, Some, None}
-use Rattle.std.specs.List.{flat_map, join_by, AllByRecursion}
+use Rattle.columns.proofs.Names.{◌≡◌, ℕ, ◌+◌, ◌/◌, ◌<◌, ◌≤◌, ◌⊎◌, inl, inr, Bool, true, false, if◌then◌else◌, List, [], ◌∷◌, ◌++◌, length, get_or, refl, ap, sym, subst, ◌∙◌, arith, append_assoc, append-nil, length-append, ◌-◌, take, codes, flat_map, AllByRecursion, IsUtf8, map-append, flat_map-append, Ends, hex_text, AreBytes, members_text, members_front, member_bytes, Member, Quoted}
+use Rattle.std.proofs.Common.{drop, add-one}
+use Rattle.std.specs.Prelude.{◌==◌, nat_lt, IsSomeAnd, Option, Some, None}
+use Rattle.std.specs.List.{join_by}
 use Rattle.std.specs.Char.{digit_char}
-use Rattle.std.specs.Str.{is_utf8, IsUtf8}
+use Rattle.std.specs.Str.{is_utf8}
 use Rattle.std.proofs.lemmas.Str.{IsUtf8-from_is_utf8}
-use Rattle.std.proofs.lemmas.List.{take_rest, take_all, map-append}
-use Rattle.std.proofs.lemmas.Grind.{flat_map-append}
+use Rattle.std.proofs.lemmas.List.{take_rest, take_all}
 use Rattle.std.proofs.Math.Seq.{take-suc}
-use Rattle.columns.specs.Word.{Ends}
-use Rattle.columns.specs.Escapes.{escape, escaped, hex_pair, hex_text, AreBytes, BeginsWithNone, BeginsWithNoPair}
-use Rattle.columns.specs.Members.{is_quote, is_comma, member_text, members_text, members_front, members_before, member_bytes, AreMembers}
-use Rattle.columns.specs.declared.member.Member.{Member}
-use Rattle.columns.specs.declared.escape.Layer.TheVariants.{Quoted}
+use Rattle.columns.specs.Escapes.{escape, escaped, hex_pair, BeginsWithNone, BeginsWithNoPair}
+use Rattle.columns.specs.Members.{is_quote, is_comma, member_text, members_before, AreMembers}
 use Rattle.columns.proofs.Codes.{IsCode, goes_on, one_way, begins}
 use Rattle.columns.proofs.Types.{never}
 use Rattle.columns.proofs.EscapeCodes.{same_bytes, hex_cut, one_or_two, two_ahead, quote_twice}

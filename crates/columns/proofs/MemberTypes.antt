@@ -1,15 +1,12 @@
 -- The names of types with members are no other type's, and neither are their texts.
-use Rattle.std.proofs.Common.{◌≡◌, ℕ, ◌≤◌, inl, inr, List, ◌++◌, length, get_or, refl, ap, sym, ◌∙◌, arith, length-append}
-use Rattle.std.specs.Prelude.{codes}
+use Rattle.columns.proofs.Names.{◌≡◌, ℕ, ◌≤◌, inl, inr, List, ◌++◌, length, get_or, refl, ap, sym, ◌∙◌, arith, length-append, codes, arguments_text, sign_text, Are, Ends, members_text, members_front, Arguments, Sign}
 use Rattle.columns.specs.TypeName.{name_text}
-use Rattle.columns.specs.TypeText.{type_text, arguments_text, sign_text}
-use Rattle.columns.specs.Word.{Are, Ends, is_letter}
-use Rattle.columns.specs.Members.{members_text, members_front, members_before, IsMembersFault}
+use Rattle.columns.specs.TypeText.{type_text}
+use Rattle.columns.specs.Word.{is_letter}
+use Rattle.columns.specs.Members.{members_before, IsMembersFault}
 use Rattle.columns.specs.declared.members.MembersFault.TheVariants.{Text}
 use Rattle.columns.specs.declared.type_name.TypeName.{TypeName}
 use Rattle.columns.specs.declared.type_name.TypeName.TheVariants.{Tinyint, Smallint, Mediumint, Int, Bigint, Decimal, Float, Double, Bit, Year, Date, Time, Datetime, Timestamp, Char, Varchar, Binary, Varbinary, Tinytext, Text, Mediumtext, Longtext, Tinyblob, Blob, Mediumblob, Longblob, Json, Geometry, Point, Linestring, Polygon, Multipoint, Multilinestring, Multipolygon, Geomcollection, Geometrycollection, Vector}
-use Rattle.columns.specs.declared.arguments.Arguments.{Arguments}
-use Rattle.columns.specs.declared.sign.Sign.{Sign}
 use Rattle.columns.proofs.Words.{one_cut}
 use Rattle.columns.proofs.Types.{letters, no_letter}
 

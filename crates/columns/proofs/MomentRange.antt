@@ -1,8 +1,7 @@
 -- The range of dates and times.
-use Rattle.std.proofs.Common.{ℕ, ◌^◌, ◌<◌, ◌≤◌, ◌&&◌, nat_le, arith}
-use Rattle.std.specs.Prelude.{IsTrue}
+use Rattle.columns.proofs.Names.{ℕ, ◌^◌, ◌<◌, ◌≤◌, ◌&&◌, nat_le, arith, IsTrue, clock_number}
 use Rattle.columns.specs.Dates.{is_date}
-use Rattle.columns.specs.Times.{is_clock, clock_number, moment_number}
+use Rattle.columns.specs.Times.{is_clock, moment_number}
 use Rattle.columns.proofs.Types.{and_parts, le_of}
 
 three : (a b c x y z : ℕ) → IsTrue (nat_le x a && nat_le y b && nat_le z c) → (x ≤ a) × (y ≤ b) × (z ≤ c)

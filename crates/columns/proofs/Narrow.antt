@@ -1,14 +1,12 @@
 -- A value of binary32 is not changed where it is rounded to one.
-use Rattle.std.proofs.Common.{◌≡◌, ℕ, zero, suc, pos, negsuc, ℤ, ◌+◌, ◌-◌, ◌*◌, ◌/◌, ◌%◌, ◌^◌, ◌<◌, ◌≤◌, Bool, cond, T, eqb, leb, ltb, sym, ap, ◌∙◌, arith, subst, ◌&&◌, ◌⊎◌, inl, inr}
-use Rattle.std.proofs.lemmas.Bool.{cases_lt}
+use Rattle.columns.proofs.Names.{◌≡◌, ℕ, zero, suc, ◌+◌, ◌-◌, ◌*◌, ◌/◌, ◌%◌, ◌^◌, ◌<◌, ◌≤◌, Bool, T, sym, ap, ◌∙◌, arith, subst, ◌&&◌, ◌⊎◌, inl, inr, cases_lt, IsTrue, of_bits-to_bits}
+use Rattle.std.proofs.Common.{pos, negsuc, ℤ, cond, eqb, leb, ltb}
 use lib.Dec.{ltb→lt, leb→le}
 use Rattle.std.specs.Float.{round_to_format, float_is_finite}
-use Rattle.std.specs.Prelude.{IsTrue}
 use Rattle.columns.proofs.Types.{never}
 use lib.Ieee.{Float, nan, inf, fin, binary32, binary64, up, down, size, hid, top, fits, round, to_bits, of_bits}
 use lib.Ieee.Exact.{HasValue, round_exact}
 use lib.Ieee.Fits.{down_pos, and_l, and_r, round-fits, fits_widens}
-use lib.Ieee.Bits.{of_bits-to_bits}
 use lib.Ieee.Nearest.{div_same}
 use lib.Pow.{pow-add, pow-lt, pow_pos, shl_lt}
 use native.Mathlib.Nat.{mul_assoc, mul_right_comm, lt_of_lt_of_le, lt_trans, lt_irrefl}

@@ -1,11 +1,10 @@
 -- Counting digits, and rounding.
-use Rattle.std.proofs.Common.{◌≡◌, ℕ, ◌+◌, ◌*◌, ◌/◌, ◌%◌, ◌^◌, ◌<◌, ◌≤◌, [], ◌∷◌, ◌++◌, length, decimal, sym, ap, ◌∙◌, arith, length-append, mul-le-mul_left, mul_assoc, pow-suc, mod-eq_of_lt}
-use Rattle.std.proofs.Math.Nat.{one-le-pow, pow-le-pow_right, div-eq_of_lt}
+use Rattle.columns.proofs.Names.{◌≡◌, ℕ, ◌+◌, ◌*◌, ◌/◌, ◌%◌, ◌^◌, ◌<◌, ◌≤◌, [], ◌∷◌, ◌++◌, length, sym, ap, ◌∙◌, arith, length-append, one-le-pow, pow-le-pow_right, decimal_digit, length-decimal-le, ne_eqb, zero_padded}
+use Rattle.std.proofs.Common.{decimal, mul-le-mul_left, mul_assoc, pow-suc, mod-eq_of_lt}
+use Rattle.std.proofs.Math.Nat.{div-eq_of_lt}
 use Rattle.std.proofs.lemmas.Nat.{div-add-mod'}
-use Rattle.std.proofs.lemmas.Fmt.{decimal_digit, decimal_step, decimal_nonempty, length-decimal-le}
-use Rattle.std.proofs.lemmas.Bool.{ne_eqb}
+use Rattle.std.proofs.lemmas.Fmt.{decimal_step, decimal_nonempty}
 use Rattle.std.specs.Str.{byte}
-use Rattle.columns.specs.Text.{zero_padded}
 use Rattle.columns.specs.Reals.{point_text}
 use Rattle.columns.specs.Tens.{IsRounded}
 

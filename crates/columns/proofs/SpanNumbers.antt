@@ -1,12 +1,9 @@
 -- The number of a TIME, and its parts.
-use Rattle.std.proofs.Common.{◌≡◌, ◌≢◌, ℕ, zero, suc, ◌+◌, ◌*◌, ◌/◌, ◌%◌, ◌^◌, ◌<◌, ◌≤◌, ◌==◌, ◌&&◌, Bool, true, false, not, nat_le, nat_lt, if◌then◌else◌, inl, inr, Option, Some, None, refl, sym, ap, ◌∙◌, arith}
-use Rattle.std.specs.Prelude.{IsTrue, IfSome}
-use Rattle.std.proofs.lemmas.Nat.{div-mul-add, div-add-mod'}
-use Rattle.std.proofs.lemmas.Bool.{cases_lt}
-use Rattle.std.proofs.Math.Nat.{mul-add-mod_self_right, mod-eq_of_lt, mul-le-mul_right, one-le-pow}
+use Rattle.columns.proofs.Names.{◌≡◌, ◌≢◌, ℕ, zero, suc, ◌+◌, ◌*◌, ◌/◌, ◌%◌, ◌^◌, ◌<◌, ◌≤◌, ◌==◌, ◌&&◌, Bool, true, false, not, nat_le, nat_lt, if◌then◌else◌, inl, inr, Option, Some, None, refl, sym, ap, ◌∙◌, arith, IsTrue, div-mul-add, cases_lt, one-le-pow, clock_number, even_digits, fraction_size, is_time}
+use Rattle.std.specs.Prelude.{IfSome}
+use Rattle.std.proofs.lemmas.Nat.{div-add-mod'}
+use Rattle.std.proofs.Math.Nat.{mul-add-mod_self_right, mod-eq_of_lt, mul-le-mul_right}
 use Rattle.std.proofs.Common.{eq-eqb}
-use Rattle.columns.specs.Times.{clock_number, even_digits, fraction_size}
-use Rattle.columns.specs.TimeRange.{is_time}
 use Rattle.columns.specs.Spans.{around, span_number}
 use Rattle.columns.specs.declared.value.span.Time.{Time}
 use Rattle.columns.proofs.Types.{and_parts, le_of, never}

@@ -1,15 +1,9 @@
 -- The text of a TIMESTAMP, and the numbers in it.
-use Rattle.std.proofs.Common.{◌≡◌, ℕ, suc, ◌+◌, ◌-◌, ◌*◌, ◌/◌, ◌%◌, ◌^◌, ◌<◌, ◌≤◌, ◌⊎◌, inl, inr, ◌||◌, ◌==◌, nat_lt, [], ◌∷◌, ◌++◌, length, replicate, refl, sym, subst, ◌∙◌, arith}
-use Rattle.std.specs.Prelude.{IsTrue}
-use Rattle.std.proofs.lemmas.Bool.{cases_lt, ne_eqb, eq-eqb}
-use Rattle.std.proofs.lemmas.Fmt.{decimal_digit}
-use Rattle.columns.specs.Text.{zero_padded}
+use Rattle.columns.proofs.Names.{◌≡◌, ℕ, suc, ◌+◌, ◌-◌, ◌*◌, ◌/◌, ◌%◌, ◌^◌, ◌<◌, ◌≤◌, ◌⊎◌, inl, inr, ◌||◌, ◌==◌, nat_lt, [], ◌∷◌, ◌++◌, length, replicate, refl, sym, subst, ◌∙◌, arith, IsTrue, cases_lt, ne_eqb, decimal_digit, zero_padded, clock_text, fraction_text, year_of, month_of, IsClockRange, is_stamp}
+use Rattle.std.proofs.lemmas.Bool.{eq-eqb}
 use Rattle.columns.specs.Dates.{date_text}
-use Rattle.columns.specs.Times.{clock_text, fraction_text}
-use Rattle.columns.specs.Calendar.{year_of, month_of}
 use Rattle.columns.specs.CalendarDays.{IsDayOf}
-use Rattle.columns.specs.FieldForms.{IsDateRange, IsClockRange}
-use Rattle.columns.specs.StampRange.{is_stamp}
+use Rattle.columns.specs.FieldForms.{IsDateRange}
 use Rattle.columns.specs.Stamps.{stamp_text}
 use Rattle.columns.specs.StampParts.{AreNone, IsClockOf, IsStampOf}
 use Rattle.columns.specs.declared.value.stamp.Timestamp.{Timestamp}

@@ -1,14 +1,10 @@
 -- What lies ahead of a reader of tables, if the text is that of these tables.
-use Rattle.std.proofs.Common.{◌≡◌, ℕ, ◌<◌, ◌≤◌, false, List, [], ◌∷◌, ◌++◌, length, drop, refl, ap, sym, subst, ◌∙◌, arith, append_assoc, append-nil, length-append}
-use Rattle.std.specs.List.{list_any, AllByRecursion, IsDistinct}
-use Rattle.std.specs.Str.{bytes_eq}
-use Rattle.std.specs.Cmp.Lexicographic.{other_text}
-use Rattle.std.proofs.lemmas.List.{map-append}
-use Rattle.std.proofs.lemmas.Grind.{flat_map-append}
+use Rattle.columns.proofs.Names.{◌≡◌, ℕ, ◌<◌, ◌≤◌, false, List, [], ◌∷◌, ◌++◌, length, refl, ap, sym, subst, ◌∙◌, arith, append_assoc, append-nil, length-append, list_any, AllByRecursion, bytes_eq, other_text, map-append, flat_map-append, is_inner, DescribedTableValue, described_tables, table_names, table_front, description_text, IsTable, AreTables, BeginsNot, Client}
+use Rattle.std.proofs.Common.{drop}
+use Rattle.std.specs.List.{IsDistinct}
 use Rattle.columns.specs.Escapes.{escaped}
-use Rattle.columns.specs.Lines.{field, is_inner}
-use Rattle.columns.specs.Descriptions.{DescribedTableValue, described_table, described_tables, table_names, table_front, table_text, description_text, IsTable, AreTables, BeginsNot}
-use Rattle.columns.specs.declared.escape.Layer.TheVariants.{Client}
+use Rattle.columns.specs.Lines.{field}
+use Rattle.columns.specs.Descriptions.{described_table, table_text}
 use Rattle.columns.specs.declared.table.DescribedTable.{DescribedTable}
 use Rattle.columns.proofs.Words.{one_cut}
 use Rattle.columns.proofs.FieldCuts.{inner_escaped}

@@ -1,11 +1,8 @@
 -- How long the texts of FLOAT and DOUBLE are.
-use Rattle.std.proofs.Common.{◌≡◌, ℕ, ◌+◌, ◌-◌, ◌/◌, ◌%◌, ◌^◌, ◌<◌, ◌≤◌, ◌∷◌, length, replicate, decimal, ap, ◌∙◌, arith, length-append, mod-lt}
-use Rattle.std.proofs.lemmas.Bool.{ne_eqb}
-use Rattle.std.proofs.lemmas.Fmt.{decimal_digit, length-decimal-le}
-use Rattle.std.proofs.lemmas.List.{length-replicate}
-use Rattle.std.proofs.Math.Nat.{div-eq_of_lt, pow-le-pow_right, mod-le}
+use Rattle.columns.proofs.Names.{◌≡◌, ℕ, ◌+◌, ◌-◌, ◌/◌, ◌%◌, ◌^◌, ◌<◌, ◌≤◌, ◌∷◌, length, replicate, ap, ◌∙◌, arith, length-append, ne_eqb, decimal_digit, length-decimal-le, length-replicate, pow-le-pow_right, zero_padded}
+use Rattle.std.proofs.Common.{decimal, mod-lt}
+use Rattle.std.proofs.Math.Nat.{div-eq_of_lt, mod-le}
 use Rattle.std.specs.Str.{byte}
-use Rattle.columns.specs.Text.{zero_padded}
 use Rattle.columns.specs.Reals.{point_text}
 use Rattle.columns.proofs.Rounding.{some_unit}
 

@@ -1,16 +1,15 @@
 -- What the texts of types begin with, and the range of their numbers.
-use Rattle.std.proofs.Common.{◌≡◌, ℕ, ◌<◌, ◌≤◌, inl, inr, Bool, true, false, ◌&&◌, nat_le, List, [], ◌∷◌, ◌++◌, Option, Some, None, is_some, unwrap_or, refl, ap, sym, subst, ◌∙◌, arith}
-use Rattle.std.specs.Prelude.{IsTrue, IsSome, IfSome, IsSomeAnd, IsOkAnd, Result, Ok, Err, cond}
-use Rattle.std.proofs.lemmas.Bool.{lt-leb, cases_lt}
+use Rattle.columns.proofs.Names.{◌≡◌, ℕ, ◌<◌, ◌≤◌, inl, inr, Bool, true, false, ◌&&◌, nat_le, List, [], ◌∷◌, ◌++◌, Option, Some, None, refl, ap, sym, subst, ◌∙◌, arith, IsTrue, Result, Ok, Err, cases_lt, Are, Ends, is_type, arguments_text, sign_text, Arguments, Sign}
+use Rattle.std.proofs.Common.{is_some, unwrap_or}
+use Rattle.std.specs.Prelude.{IsSome, IfSome, IsSomeAnd, IsOkAnd, cond}
+use Rattle.std.proofs.lemmas.Bool.{lt-leb}
 use Rattle.columns.specs.TypeName.{name_text}
-use Rattle.columns.specs.Word.{Are, Ends, is_letter, is_opening}
-use Rattle.columns.specs.DataType.{is_type, takes, signs}
-use Rattle.columns.specs.TypeText.{arguments_text, sign_text, AreSmall}
+use Rattle.columns.specs.Word.{is_letter, is_opening}
+use Rattle.columns.specs.DataType.{takes, signs}
+use Rattle.columns.specs.TypeText.{AreSmall}
 use Rattle.columns.specs.declared.type_name.TypeName.{TypeName}
 use Rattle.columns.specs.declared.type_name.TypeName.TheVariants.{Tinyint, Smallint, Mediumint, Int, Bigint, Decimal, Float, Double, Bit, Year, Date, Time, Datetime, Timestamp, Char, Varchar, Binary, Varbinary, Tinytext, Text, Mediumtext, Longtext, Tinyblob, Blob, Mediumblob, Longblob, Json, Geometry, Point, Linestring, Polygon, Multipoint, Multilinestring, Multipolygon, Geomcollection, Geometrycollection, Vector}
-use Rattle.columns.specs.declared.arguments.Arguments.{Arguments}
 use Rattle.columns.specs.declared.arguments.Arguments.TheVariants.{NoNumber, OneNumber, TwoNumbers}
-use Rattle.columns.specs.declared.sign.Sign.{Sign}
 use Rattle.columns.specs.declared.sign.Sign.TheVariants.{Signed, Unsigned, Zerofill}
 use Rattle.columns.proofs.Words.{one_cut}
 

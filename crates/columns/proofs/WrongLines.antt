@@ -1,13 +1,11 @@
 -- What is wrong with a line that was not read.
-use Rattle.std.proofs.Common.{inr, ◌≡◌, ◌≢◌, ℕ, ◌<◌, Bool, true, false, not, List, [], ◌∷◌, ◌++◌, length, drop, refl, ap, sym, ◌∙◌, arith, length-append, append_assoc, append-nil}
-use Rattle.std.specs.List.{list_any}
-use Rattle.std.specs.Str.{bytes_eq}
+use Rattle.columns.proofs.Names.{inr, ◌≡◌, ◌≢◌, ℕ, ◌<◌, Bool, true, false, not, List, [], ◌∷◌, ◌++◌, length, refl, ap, sym, ◌∙◌, arith, length-append, append_assoc, append-nil, list_any, bytes_eq, ColumnValue, DescribedTableValue, table_front, AreDescribedColumns, AreTables, table_names, description_text, lines_text, Client}
+use Rattle.std.proofs.Common.{drop}
 use Rattle.columns.specs.Escapes.{escaped}
-use Rattle.columns.specs.Lines.{ColumnValue, field}
+use Rattle.columns.specs.Lines.{field}
 use Rattle.columns.specs.LineFaults.{IsFaultAmong, IsColumnFault, front_fields, column_fields, line_fields}
 use Rattle.columns.proofs.LineFaults.{no_set, no_twice, no_apart, no_none, in_front}
-use Rattle.columns.specs.Descriptions.{DescribedTableValue, table_front, IsFront, IsWrongLine, BeginsWithNoLine, AreDescribedColumns, AreTables, IsStopped, IsTableStopped, table_names, description_text, lines_text}
-use Rattle.columns.specs.declared.escape.Layer.TheVariants.{Client}
+use Rattle.columns.specs.Descriptions.{IsFront, IsWrongLine, BeginsWithNoLine, IsStopped, IsTableStopped}
 use Rattle.columns.specs.declared.fields.LineFault.{LineFault}
 use Rattle.columns.specs.declared.fields.LineFault.TheVariants.{Fields, Unended, Escape, Name, Kind, CharacterSet, Key, ColumnTwice, TableApart, NoLine, Memory}
 use Rattle.columns.proofs.Types.{never}

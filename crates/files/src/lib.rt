@@ -6,8 +6,9 @@
 //! a file to whose end the lines of a change feed are written, [`Input`] is what a stream is read from, and [`KeptInput`]
 //! keeps standard input, so that it can be read twice.
 //!
-//! Nothing is specified about what a file has, so no function has a contract but [`FileFault`]'s conversions; each says why
-//! it refuses a file, and never by stopping the process.
+//! Nothing is specified about what the file at a path has, so few functions have a contract: [`FileFault`]'s
+//! conversions, and those that copy two files which others may write, over files whose bytes are known; [`laws`]
+//! states what follows for the copy. Each function says why it refuses a file, and never by stopping the process.
 #![tactic(auto)]
 
 mod copy_part;
@@ -16,6 +17,7 @@ mod fault;
 mod feed_file;
 mod input;
 mod kept_input;
+pub mod laws;
 mod name_lock;
 mod names;
 mod new_file;

@@ -8,7 +8,7 @@ use std::io::ErrorKind;
 use std::{fs, io};
 
 /// How long the header of a WAL file is (SQLite, "Database File Format", section 4.1).
-const WAL_HEADER: usize = 32;
+pub const WAL_HEADER: usize = 32;
 
 const SAME: &str = "it is the database itself";
 

@@ -1,22 +1,16 @@
 -- What is wrong after the lines that were taken.
-use Rattle.std.proofs.Common.{◌≡◌, ◌≢◌, ℕ, ◌+◌, ◌-◌, ◌<◌, ◌≤◌, ◌^◌, min, Bool, true, false, not, List, [], ◌∷◌, ◌++◌, length, Option, Some, None, refl, ap, sym, subst, ◌∙◌, arith}
-use Rattle.std.specs.Prelude.{◌==◌, IfSome}
-use Rattle.std.specs.Io.KnownBytes.{Consumes, Keeps, prepend_known}
+use Rattle.first_copy.proofs.Names.{◌≡◌, ◌≢◌, ℕ, ◌+◌, ◌-◌, ◌<◌, ◌≤◌, ◌^◌, Bool, true, false, not, List, [], ◌∷◌, ◌++◌, length, Option, Some, None, refl, ap, sym, subst, ◌∙◌, arith, IfSome, Consumes, prepend_known, Sha1, Are, DescribedTable, ChangeValue, IsRowFault, IsEndLine, IsGathered, IsKnownFault, RowFault}
+use Rattle.std.proofs.Common.{min}
+use Rattle.std.specs.Prelude.{◌==◌}
+use Rattle.std.specs.Io.KnownBytes.{Keeps}
 use Rattle.std.specs.Io.BufRead.{take_through}
 use Rattle.std.proofs.lemmas.Bool.{eqb-true}
-use Rattle.sha1.specs.declared.Sha1.{Sha1}
-use Rattle.columns.specs.Word.{Are}
-use Rattle.columns.specs.declared.table.DescribedTable.{DescribedTable}
-use Rattle.gather.specs.Transaction.{ChangeValue}
-use Rattle.first_copy.specs.RowLines.{IsRowFault}
-use Rattle.first_copy.specs.CopyLines.{IsEndLine}
-use Rattle.first_copy.specs.CopySteps.{IsGathered, IsCollected}
-use Rattle.first_copy.specs.CopyFaults.{line_after, is_no_newline, IsFaultAt, IsFaultOfCopy, IsKnownFault, copied_fault, IsFillFault, IsReaderFault}
-use Rattle.first_copy.specs.declared.fault.RowFault.{RowFault}
+use Rattle.first_copy.specs.CopySteps.{IsCollected}
+use Rattle.first_copy.specs.CopyFaults.{line_after, is_no_newline, IsFaultAt, IsFaultOfCopy, copied_fault, IsFillFault, IsReaderFault}
 use Rattle.first_copy.specs.declared.fault.RowFault.TheVariants as row
 use Rattle.first_copy.specs.declared.copy_fault.CopyFault.{CopyFault}
 use Rattle.first_copy.specs.declared.copy_fault.CopyFault.TheVariants.{Version, Encoding, Executed, Cut, Row, Count, Trailing, Reader, TooMany, Memory, Failed}
-use Rattle.first_copy.proofs.Collecting.{none_collected}
+use Rattle.first_copy.proofs.RowLines.{none_collected}
 
 -- bytes up to a newline, which do not end with one, are all, and have none
 no_newline : (xs : List ℕ) → ((front : List ℕ) → take_through 10 xs ≡ front ++ 10 ∷ [] → ⊥) → Are is_no_newline xs

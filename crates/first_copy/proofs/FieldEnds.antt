@@ -1,11 +1,9 @@
 -- A field and the byte that ends it are cut off in one way.
-use Rattle.std.proofs.Common.{◌≡◌, ℕ, Bool, true, false, not, List, ◌∷◌, ◌++◌, refl, sym, subst, ◌∙◌}
+use Rattle.first_copy.proofs.Names.{◌≡◌, ℕ, Bool, true, false, not, List, ◌∷◌, ◌++◌, refl, sym, subst, ◌∙◌, CellValue, Column, Are, is_inner}
 use Rattle.std.specs.Prelude.{IsTrue}
-use Rattle.binlog.specs.Cell.{CellValue}
-use Rattle.columns.specs.declared.column.Column.{Column}
 use Rattle.first_copy.specs.RowFields.{IsFieldOf}
-use Rattle.columns.specs.Word.{Are, Ends}
-use Rattle.columns.specs.Lines.{is_inner, is_separator}
+use Rattle.columns.specs.Word.{Ends}
+use Rattle.columns.specs.Lines.{is_separator}
 use Rattle.columns.proofs.Words.{one_cut}
 use Rattle.columns.proofs.Types.{never}
 

@@ -1,10 +1,11 @@
-pub mod Collecting
+pub mod RowLines
 pub mod DefinedAt
 pub mod FaultsAfter
 pub mod FieldEnds
-mod Hashed
+mod TextDigests
 pub mod LineReading
 pub mod NameCodes
-pub mod Supplying
+mod Names
+pub mod Supplies
 pub mod TablePlaces
 pub mod TextRows

@@ -1,15 +1,14 @@
 -- The fields of a line are read one by one.
-use Rattle.std.proofs.Common.{◌≡◌, ℕ, zero, suc, ◌+◌, ◌<◌, ◌≤◌, List, [], ◌∷◌, ◌++◌, length, drop, refl, ap, sym, subst, ◌∙◌, arith, append_assoc, length-drop, length-append, append-nil, rules, inl, inr}
-use Rattle.std.proofs.lemmas.List.{take-append-le, nil_from_length}
+use Rattle.first_copy.proofs.Names.{◌≡◌, ℕ, suc, ◌+◌, ◌<◌, ◌≤◌, List, [], ◌∷◌, ◌++◌, length, refl, ap, sym, subst, ◌∙◌, arith, append_assoc, length-append, append-nil, inl, inr, nil_from_length, CellValue, Column, placed_cells, AreFields, RowFault}
+use Rattle.std.proofs.Common.{zero, drop, length-drop, rules}
+use Rattle.std.proofs.lemmas.List.{take-append-le}
 use lib.Seq.{drop-append-le}
-use Rattle.binlog.specs.Cell.{CellValue, bytes_cell}
+use Rattle.binlog.specs.Cell.{bytes_cell}
 use Rattle.std.specs.Prelude.{IsTrue}
 use Rattle.columns.specs.Lines.{is_separator}
-use Rattle.columns.specs.declared.column.Column.{Column}
-use Rattle.first_copy.specs.CellPlaces.{place_size, place_cell, places_size, placed_cells}
+use Rattle.first_copy.specs.CellPlaces.{place_size, place_cell, places_size}
 use Rattle.first_copy.specs.FieldSteps.{IsFieldRead}
-use Rattle.first_copy.specs.RowFields.{field_end, IsFieldOf, AreFields, IsWrongField, IsWrongAmong}
-use Rattle.first_copy.specs.declared.fault.RowFault.{RowFault}
+use Rattle.first_copy.specs.RowFields.{field_end, IsFieldOf, IsWrongField, IsWrongAmong}
 use Rattle.first_copy.specs.declared.fault.RowFault.TheVariants.{Fields, Memory}
 use Rattle.first_copy.specs.declared.places.Place.{Place}
 use Rattle.first_copy.specs.declared.places.Place.TheVariants.{Null, Number, Bytes}

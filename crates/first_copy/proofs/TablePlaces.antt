@@ -1,24 +1,20 @@
 -- The table whose names stand at the front of a line.
-use Rattle.std.proofs.Common.{◌≡◌, ◌≢◌, ℕ, zero, suc, ◌+◌, ◌<◌, ◌≤◌, ◌==◌, Bool, true, false, List, [], ◌∷◌, ◌++◌, length, Some, slice_get, get_or, inl, inr, refl, ap, sym, subst, ◌∙◌, arith, append_assoc, eq-eqb}
+use Rattle.first_copy.proofs.Names.{◌≡◌, ◌≢◌, ℕ, suc, ◌+◌, ◌<◌, ◌≤◌, Bool, true, false, List, [], ◌∷◌, ◌++◌, length, Some, slice_get, get_or, inl, inr, refl, ap, sym, subst, ◌∙◌, arith, append_assoc, bytes_eq, slice_get_read, DescribedTable, IsRowFault, RowFault, Column, AreFields, CellValue}
+use Rattle.std.proofs.Common.{zero, ◌==◌, eq-eqb}
 use Rattle.std.specs.List.{AllByRecursion, IsDistinct}
-use Rattle.std.specs.Str.{bytes_eq}
 use Rattle.std.specs.Cmp.Lexicographic.{other_text}
 use Rattle.std.proofs.Math.Logic.{∥∥₁_elim}
 use Rattle.std.proofs.lemmas.Bool.{eqb-true}
 use Rattle.std.proofs.lemmas.List.{append_cancel_left}
-use Rattle.std.proofs.lemmas.Option.{slice_get_within, slice_get_read}
+use Rattle.std.proofs.lemmas.Option.{slice_get_within}
 use Rattle.columns.specs.Lines.{field}
 use Rattle.columns.specs.Descriptions.{described_table, described_tables, table_front, table_names, BeginsNot, IsDescription}
-use Rattle.columns.specs.declared.table.DescribedTable.{DescribedTable}
 use Rattle.columns.proofs.Types.{never}
 use Rattle.columns.proofs.TablesAhead.{same_front}
 use Rattle.first_copy.specs.FoundTables.{IsFoundAt}
-use Rattle.first_copy.specs.RowLines.{IsRowAt, IsWrongRow, IsRowFault}
-use Rattle.first_copy.specs.declared.fault.RowFault.{RowFault}
+use Rattle.first_copy.specs.RowLines.{IsRowAt, IsWrongRow}
 use Rattle.first_copy.specs.declared.fault.RowFault.TheVariants.{Table, Fields, Unended, Field, Image, Memory}
-use Rattle.columns.specs.declared.column.Column.{Column}
-use Rattle.first_copy.specs.RowFields.{AreFields, IsWrongField, IsWrongAmong, field_end}
-use Rattle.binlog.specs.Cell.{CellValue}
+use Rattle.first_copy.specs.RowFields.{IsWrongField, IsWrongAmong, field_end}
 
 -- what follows the first of two parts begins with the second
 pub behind_first : (a b line rest more : List ℕ) → line ≡ a ++ rest → line ≡ (a ++ b) ++ more → rest ≡ b ++ more

@@ -1,19 +1,16 @@
 -- The rows that the transactions of a text add.
-use Rattle.std.proofs.Common.{◌≡◌, ℕ, suc, ◌+◌, Bool, true, false, List, [], ◌∷◌, ◌++◌, length, refl, sym, ap, ap₂, subst, ◌∙◌, append_assoc, append-nil, length-append, zero-add}
+use Rattle.first_copy.proofs.Names.{◌≡◌, ℕ, suc, ◌+◌, Bool, true, false, List, [], ◌∷◌, ◌++◌, length, refl, sym, ap, subst, ◌∙◌, append_assoc, append-nil, length-append, string_bytes, Ids, CellValue, DescribedTable, ChangeValue, DeliveryValue, IsEndLine}
+use Rattle.std.proofs.Common.{ap₂, zero-add}
 use Rattle.std.specs.List.{AllByRecursion}
-use Rattle.std.specs.String.{string_bytes}
-use Rattle.gtid.specs.Identifier.{Ids}
 use Rattle.binlog.specs.Filter.{Names}
-use Rattle.binlog.specs.Cell.{CellValue}
-use Rattle.columns.specs.declared.table.DescribedTable.{DescribedTable}
-use Rattle.gather.specs.Transaction.{ChangeValue, insert, DeliveryValue}
+use Rattle.gather.specs.Transaction.{insert}
 use Rattle.store.specs.State.{Content, TableRow, row_of}
 use Rattle.store.specs.Changes.{adopted, is_admitted}
 use Rattle.replica.specs.Conn.{AppliesAll}
 use Rattle.replica.specs.Copied.{AreAdded, AreAdditions, AreCopied, AreNumbered, NoneExecuted, with_all}
-use Rattle.replica.proofs.Copied.{loaded_rows}
+use Rattle.replica.proofs.CopyLoads.{loaded_rows}
 use Rattle.first_copy.specs.RowLines.{IsRowLine}
-use Rattle.first_copy.specs.CopyLines.{AreRowLines, IsChunk, IsEndLine}
+use Rattle.first_copy.specs.CopyLines.{AreRowLines, IsChunk}
 use Rattle.first_copy.specs.LoadedText.{IsLineOf, HasLinesOf}
 use Rattle.first_copy.specs.Supplied.{all_changes, HaveLines}
 

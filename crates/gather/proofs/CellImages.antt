@@ -1,16 +1,15 @@
 -- Images of cells, and the cells at the front of bytes.
-use Rattle.std.proofs.Common.{◌≡◌, ℕ, zero, suc, ◌+◌, ◌-◌, ◌≤◌, ◌==◌, Bool, true, false, ◌&&◌, ◌⊎◌, inl, inr, List, [], ◌∷◌, ◌++◌, length, take, drop, Option, Some, None, refl, sym, ap, subst, ◌∙◌, append_assoc, arith}
-use Rattle.std.specs.Prelude.{nat_le, flat_map, if◌then◌else◌}
-use Rattle.std.specs.List.{AllByRecursion}
+use Rattle.gather.proofs.Names.{◌≡◌, ℕ, zero, suc, ◌+◌, ◌-◌, ◌≤◌, true, false, ◌⊎◌, inl, inr, List, [], ◌∷◌, ◌++◌, length, take, Option, Some, None, refl, sym, ap, subst, ◌∙◌, append_assoc, arith, nat_le, flat_map, AllByRecursion, and_parts, leb-true, length-append, little_bytes, length-bytes_low_first, CellValue, number_cell, cell_image, HasCellImage, cell_front, cells_in}
+use Rattle.std.proofs.Common.{◌==◌, Bool, ◌&&◌, drop}
+use Rattle.std.specs.Prelude.{if◌then◌else◌}
 use Rattle.std.proofs.Math.Seq.{take-add}
-use Rattle.std.proofs.lemmas.Bool.{and_parts, eqb-true, leb-true, le-leb}
-use Rattle.std.proofs.lemmas.List.{length-append, length-take, length-drop, take_at}
-use Rattle.byteorder.specs.Endian.{little_bytes, little_number}
-use Rattle.byteorder.specs.Numbers.{little_number-reads_back, little_from-lt, length-bytes_low_first}
-use Rattle.binlog.specs.Cell.{CellValue, null_cell, number_cell, bytes_cell}
+use Rattle.std.proofs.lemmas.Bool.{eqb-true, le-leb}
+use Rattle.std.proofs.lemmas.List.{length-take, length-drop, take_at}
+use Rattle.byteorder.specs.Endian.{little_number}
+use Rattle.byteorder.specs.Numbers.{little_number-reads_back, little_from-lt}
+use Rattle.binlog.specs.Cell.{null_cell, bytes_cell}
 use Rattle.wire.proofs.Cuts.{IsBytes, IsBytes-rest, take_is_number, drop_at, drop_front}
-use Rattle.gather.specs.Image.{cell_image, HasCellImage}
-use Rattle.gather.specs.ImageCells.{number_front, bytes_front, cell_front, goes_on, cells_in_image, cells_in}
+use Rattle.gather.specs.ImageCells.{number_front, bytes_front, goes_on, cells_in_image}
 
 -- ---- What is read is the image of a cell.
 

@@ -1,13 +1,10 @@
 -- Images written and read cell by cell.
-use Rattle.std.proofs.Common.{◌≡◌, ℕ, zero, suc, ◌+◌, ◌-◌, ◌<◌, ◌≤◌, Some, List, [], ◌∷◌, ◌++◌, length, drop, set, ◌%◌, ◌/◌, add-one, refl, sym, ap, subst, ◌∙◌, append_assoc, arith}
-use Rattle.std.specs.Prelude.{flat_map, slice_index_or}
-use Rattle.std.specs.List.{AllByRecursion}
-use Rattle.std.proofs.lemmas.List.{length-append, append-nil}
-use Rattle.byteorder.specs.Numbers.{length-bytes_low_first}
-use Rattle.binlog.specs.Cell.{CellValue, number_cell, cell_value}
+use Rattle.gather.proofs.Names.{◌≡◌, ℕ, zero, suc, ◌+◌, ◌-◌, ◌<◌, ◌≤◌, Some, List, [], ◌∷◌, ◌++◌, length, refl, sym, ap, subst, ◌∙◌, append_assoc, arith, flat_map, AllByRecursion, length-append, length-bytes_low_first, CellValue, number_cell, cell_value, cell_image, image, HasCellImage, cell_values, cell_front, are_images}
+use Rattle.std.proofs.Common.{drop, set, ◌%◌, ◌/◌, add-one}
+use Rattle.std.specs.Prelude.{slice_index_or}
+use Rattle.std.proofs.lemmas.List.{append-nil}
 use Rattle.binlog.specs.declared.cell.Cell.{Cell}
-use Rattle.gather.specs.Image.{cell_image, image, HasCellImage}
-use Rattle.gather.specs.ImageCells.{cell_values, cell_front, are_images, holds_after}
+use Rattle.gather.specs.ImageCells.{holds_after}
 
 abbrev pub AllHave : List CellValue → Type 0
 AllHave cells = AllByRecursion HasCellImage cells

@@ -1,4 +1,5 @@
-pub mod Packed
+mod Names
+pub mod ImagePacking
 pub mod RowImages
 pub mod CellImages
 pub mod WholeImages
@@ -6,8 +7,8 @@ pub mod ImageParts
 pub mod Maps
 pub mod RowItems
 pub mod States
-pub mod Growing
-pub mod Stepping
-pub mod Shortening
+pub mod LongerLists
+pub mod OneMoreEvent
+pub mod ShorterLists
 pub mod OneList
 pub mod NextEvents

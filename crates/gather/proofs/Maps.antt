@@ -1,5 +1,5 @@
 -- Table maps and changes of a block that grows by one event.
-use Rattle.std.proofs.Common.{◌≡◌, ℕ, false, List, [], ◌∷◌, ◌++◌, append-nil, append_assoc, map, Option, Some, None, refl, ap, sym, ◌∙◌, subst, ⊎_elim}
+use Rattle.gather.proofs.Names.{◌≡◌, ℕ, false, List, [], ◌∷◌, ◌++◌, append-nil, append_assoc, map, Option, Some, None, refl, ap, sym, ◌∙◌, subst, ⊎_elim, list_any, cases_eq, TableValue, RowsValue, EventValue, format, commit, neutral, stop, rotate, gtid, table_map, other_map, xid, TableDef, ChangeValue, map_of, change_of, is_end, AreChangesOf, AreChanges, table_of}
 use Rattle.std.specs.Option.{option_or, option_map}
 use Rattle.std.specs.Ordering.{nat_cmp, is_eq}
 use Rattle.std.specs.Cmp.{nat_cmp_is}
@@ -7,15 +7,11 @@ use Rattle.std.specs.declared.cmp.Ordering.TheVariants.{Less, Greater}
 use Rattle.std.specs.BTreeMap.{BTreeMap, get, Updates}
 use Rattle.std.specs.declared.alloc.Global.{Global}
 use Rattle.std.specs.declared.rc.Rc.{Rc}
-use Rattle.std.specs.List.{list_any}
-use Rattle.std.proofs.lemmas.Bool.{cases_eq, cases_order, ne_eqb, eq-eqb}
-use Rattle.binlog.specs.Table.{TableValue}
+use Rattle.std.proofs.lemmas.Bool.{cases_order, ne_eqb, eq-eqb}
 use Rattle.binlog.specs.Row.{kinds}
-use Rattle.binlog.specs.Rows.{RowsValue}
-use Rattle.binlog.specs.Event.{EventValue, format, begin, commit, neutral, stop, rotate, gtid, table_map, other_map, rows, xid}
-use Rattle.binlog.specs.declared.body.table_map.TableDef.{TableDef}
-use Rattle.gather.specs.Transaction.{ChangeValue, said_of, map_of, change_of, is_end, AreChangesOf, AreChanges}
-use Rattle.gather.specs.OpenTransaction.{table_of, said, AppendsChanges, HasTaken}
+use Rattle.binlog.specs.Event.{begin, rows}
+use Rattle.gather.specs.Transaction.{said_of}
+use Rattle.gather.specs.OpenTransaction.{said, AppendsChanges, HasTaken}
 use Rattle.gather.specs.declared.open_transaction.OpenTransaction.{OpenTransaction}
 
 pub or_none : (x : Option (Option TableValue)) → option_or x None ≡ x

@@ -1,25 +1,19 @@
 -- The next event of a lawful list that was read: it is lawful or has a fault.
-use Rattle.std.proofs.Common.{◌≡◌, ◌⊎◌, ℕ, ◌+◌, ◌<◌, true, false, ◌||◌, List, [], ◌∷◌, ◌++◌, length, map, fold, Option, Some, None, refl, ap, sym, ◌∙◌, subst, ⊎_elim, inl, inr, true≢false}
-use Rattle.std.proofs.Math.Bool.{or-false, or-true}
-use Rattle.std.specs.List.{AllByRecursion, list_any}
-use Rattle.std.proofs.lemmas.List.Folds.{list_any-append}
-use Rattle.std.proofs.lemmas.Bool.{cases_Bool, cases_eq}
-use Rattle.byteorder.specs.Endian.{little_bytes}
-use Rattle.binlog.specs.Table.{TableValue}
-use Rattle.binlog.specs.Rows.{RowsValue, AreItemsAt, items_of}
-use Rattle.binlog.specs.Event.{EventValue, format, begin, commit, neutral, stop, rotate, gtid, table_map, other_map, rows, xid}
+use Rattle.gather.proofs.Names.{◌≡◌, ◌⊎◌, ℕ, ◌+◌, ◌<◌, true, false, ◌||◌, List, [], ◌∷◌, ◌++◌, length, map, fold, Option, Some, None, refl, ap, sym, ◌∙◌, subst, ⊎_elim, inl, inr, true≢false, or-false, AllByRecursion, list_any, list_any-append, cases_Bool, cases_eq, little_bytes, TableValue, RowsValue, EventValue, format, commit, neutral, stop, rotate, gtid, table_map, other_map, xid, ChangeValue, DeliveryValue, is_neutral, is_mark, is_end, map_of, change_of, AreChangesOf, IsAnnounced, IsOpen, IsWhole, IsBlock, AreBlocks, is_format_first, AreDeliveries, is_gtid, has_format, add_event, last_block, is_open, IsRowsFault, GatherFault}
+use Rattle.std.proofs.Math.Bool.{or-true}
+use Rattle.binlog.specs.Rows.{AreItemsAt, items_of}
+use Rattle.binlog.specs.Event.{begin, rows}
 use Rattle.binlog.specs.declared.fault.EventFaultKind.TheVariants.{Columns, Truncated}
 use Rattle.wire.proofs.Cuts.{IsBytes-all}
 use Rattle.binlog.proofs.RowsItems.{whole_or_early, one_end, some_items}
-use Rattle.gather.specs.Transaction.{ChangeValue, DeliveryValue, is_neutral, is_mark, is_end, map_of, change_of, AreRowChanges, AreChangesOf, IsAnnounced, IsOpen, IsWhole, IsBlock, AreBlocks, is_format_first, AreDeliveries, IsLawful}
-use Rattle.gather.specs.Fault.{is_format, is_gtid, has_format, add_event, last_block, is_announced, is_open, is_of_transaction, is_in_place, type_of, IsRowsFault, IsFault, no_format, misplaced, unread, HasFault, IsFromBytes}
-use Rattle.gather.specs.declared.fault.GatherFault.{GatherFault}
+use Rattle.gather.specs.Transaction.{AreRowChanges, IsLawful}
+use Rattle.gather.specs.Fault.{is_format, is_announced, is_of_transaction, is_in_place, type_of, IsFault, no_format, misplaced, unread, HasFault, IsFromBytes}
 use Rattle.gather.specs.declared.fault.GatherFault.TheVariants.{NoFormat, Misplaced, UnknownTable, Event}
 use Rattle.gather.proofs.Maps.{changes_more}
-use Rattle.gather.proofs.Growing.{counted, joined, counts_no_more, format_more, first_more, first_after, split, last_is, skips}
+use Rattle.gather.proofs.LongerLists.{counted, joined, counts_no_more, format_more, first_more, first_after, split, last_is, skips}
 use Rattle.gather.proofs.States.{open_block, map_of_body}
-use Rattle.gather.proofs.Stepping.{whole_closed, new_block, longer, Continues, continues}
-use Rattle.gather.proofs.Shortening.{Back, passes, marks, announces, starts, goes_on, ends, back}
+use Rattle.gather.proofs.OneMoreEvent.{whole_closed, new_block, longer, Continues, continues}
+use Rattle.gather.proofs.ShorterLists.{Back, passes, marks, announces, starts, goes_on, ends, back}
 use Rattle.gather.proofs.OneList.{many_columns}
 
 -- ---- Rows events that were read.

@@ -1,14 +1,11 @@
 -- Events that were read have one list of transactions.
-use Rattle.std.proofs.Common.{◌≡◌, ℕ, ◌≤◌, List, [], ◌∷◌, ◌++◌, length, append-nil, append_assoc, map, fold, Option, Some, None, arith, refl, ap, sym, ◌∙◌, subst, ⊎_elim, true≢false}
-use Rattle.std.specs.List.{AllByRecursion}
-use Rattle.binlog.specs.Table.{TableValue}
-use Rattle.binlog.specs.Rows.{RowsValue}
-use Rattle.binlog.specs.Event.{EventValue, format, begin, commit, neutral, stop, rotate, gtid, table_map, other_map, rows, xid}
+use Rattle.gather.proofs.Names.{◌≡◌, ℕ, ◌≤◌, List, [], ◌∷◌, ◌++◌, length, append-nil, append_assoc, map, fold, Option, Some, None, arith, refl, ap, sym, ◌∙◌, subst, ⊎_elim, true≢false, AllByRecursion, TableValue, RowsValue, EventValue, format, commit, neutral, stop, rotate, gtid, table_map, other_map, xid, ChangeValue, DeliveryValue, change_of, AreChangesOf, AreChanges, IsOpen, IsBlock, AreBlocks, AreDeliveries, add_event, last_block}
+use Rattle.binlog.specs.Event.{begin, rows}
 use Rattle.binlog.proofs.RowsItems.{one_list}
-use Rattle.gather.specs.Transaction.{ChangeValue, DeliveryValue, change_of, AreRowChanges, AreChangesOf, AreChanges, IsOpen, IsBlock, AreBlocks, AreDeliveries}
-use Rattle.gather.specs.Fault.{add_event, last_block, IsFromBytes}
-use Rattle.gather.proofs.Growing.{counted, joined, split, last_is}
-use Rattle.gather.proofs.Shortening.{ended, Given, stays, gives, given, back}
+use Rattle.gather.specs.Transaction.{AreRowChanges}
+use Rattle.gather.specs.Fault.{IsFromBytes}
+use Rattle.gather.proofs.LongerLists.{counted, joined, split, last_is}
+use Rattle.gather.proofs.ShorterLists.{ended, Given, stays, gives, given, back}
 
 -- ---- Events that were read.
 

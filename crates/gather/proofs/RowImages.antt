@@ -1,18 +1,13 @@
 -- The cells of a row have an image.
-use Rattle.std.proofs.Common.{◌≡◌, ℕ, ◌<◌, ◌≤◌, ◌^◌, List, [], ◌∷◌, ◌++◌, length, ap, refl, subst, sym, arith}
-use Rattle.std.specs.Prelude.{true, ◌&&◌, nat_le, IsTrue}
-use Rattle.std.specs.List.{AllByRecursion}
-use Rattle.std.proofs.lemmas.Bool.{and_parts, leb-true}
-use Rattle.std.proofs.lemmas.List.{length-append}
-use Rattle.byteorder.specs.Endian.{little_bytes}
-use Rattle.binlog.specs.Cell.{CellValue, null_cell, number_cell, bytes_cell}
+use Rattle.gather.proofs.Names.{◌≡◌, ℕ, ◌<◌, ◌≤◌, ◌^◌, List, [], ◌∷◌, ◌++◌, length, ap, refl, subst, sym, arith, nat_le, AllByRecursion, and_parts, leb-true, length-append, little_bytes, CellValue, number_cell, HasCellImage, HasImage}
+use Rattle.std.specs.Prelude.{true, ◌&&◌, IsTrue}
+use Rattle.binlog.specs.Cell.{null_cell, bytes_cell}
 use Rattle.binlog.specs.Column.{is_lawful}
 use Rattle.binlog.specs.Shape.{prefix_of, shape, IsValue}
 use Rattle.binlog.specs.Row.{AreValues, IsRow}
 use Rattle.binlog.specs.declared.column.kind.ColumnKind.{ColumnKind}
 use Rattle.binlog.specs.declared.column.kind.ColumnKind.TheVariants.{Tiny, Short, Int24, Long, LongLong, Varchar, Blob, Bit, NewDecimal, Float, Double, Date, Year, Timestamp2, Datetime2, Time2, Char, Enum, Set}
 use Rattle.binlog.proofs.LawfulColumns.{AllLawful}
-use Rattle.gather.specs.Image.{HasCellImage, HasImage}
 
 -- ---- One value.
 

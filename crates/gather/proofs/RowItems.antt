@@ -1,25 +1,22 @@
 -- The items of a rows event, while its pairs become changes.
-use Rattle.std.proofs.Common.{◌≡◌, ℕ, ◌+◌, ◌<◌, ◌≤◌, ◌^◌, List, [], ◌∷◌, ◌++◌, length, map, append-nil, append_assoc, Option, Some, None, Result, Ok, Err, IsTrue, refl, ap, sym, ◌∙◌, subst, ⊎_elim, inl, inr, arith}
-use Rattle.std.specs.List.{AllByRecursion}
+use Rattle.gather.proofs.Names.{◌≡◌, ℕ, ◌+◌, ◌<◌, ◌≤◌, ◌^◌, List, [], ◌∷◌, ◌++◌, length, map, append-nil, append_assoc, Option, Some, None, Result, Ok, Err, refl, ap, sym, ◌∙◌, subst, ⊎_elim, inl, inr, arith, AllByRecursion, length-append, RowsValue, TableDef, ChangeValue, change_of, IsRowsFault, table_of}
+use Rattle.std.proofs.Common.{IsTrue}
 use Rattle.std.specs.declared.alloc.Global.{Global}
 use Rattle.std.specs.declared.rc.Rc.{Rc}
 use Rattle.std.proofs.lemmas.Option.{none-some}
-use Rattle.std.proofs.lemmas.List.{length-append}
-use Rattle.gtid.proofs.Read.{length_map}
+use Rattle.gtid.proofs.BytesSoFar.{length_map}
 use Rattle.std.specs.Option.{unwrap_or}
 use Rattle.binlog.specs.Column.{is_lawful}
 use Rattle.binlog.specs.Row.{kinds}
-use Rattle.binlog.specs.Rows.{RowsValue, PairValue, inserted, deleted, updated, IsPair, AreRows, AreItems}
+use Rattle.binlog.specs.Rows.{PairValue, inserted, deleted, updated, IsPair, AreRows, AreItems}
 use Rattle.binlog.specs.declared.column.kind.ColumnKind.{ColumnKind}
 use Rattle.binlog.specs.declared.fault.EventFault.{EventFault}
 use Rattle.binlog.specs.declared.fault.EventFaultKind.TheVariants.{Columns, Truncated}
 use Rattle.binlog.specs.declared.body.rows_event.RowsKind.{RowsKind}
 use Rattle.binlog.specs.declared.body.rows_event.RowsKind.TheVariants.{Write, Update, Delete}
-use Rattle.binlog.specs.declared.body.table_map.TableDef.{TableDef}
 use Rattle.binlog.proofs.LawfulColumns.{lawful_kinds}
-use Rattle.gather.specs.Transaction.{ChangeValue, change_of}
-use Rattle.gather.specs.Fault.{IsRowsFault, HasFirstPair, HasChange}
-use Rattle.gather.specs.OpenTransaction.{table_of, HasImages, AppendsChanges}
+use Rattle.gather.specs.Fault.{HasFirstPair, HasChange}
+use Rattle.gather.specs.OpenTransaction.{HasImages, AppendsChanges}
 use Rattle.gather.specs.declared.fault.GatherFault.TheVariants.{Event}
 use Rattle.gather.proofs.RowImages.{row_has_image}
 

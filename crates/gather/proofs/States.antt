@@ -1,14 +1,11 @@
 -- Rows events after a BEGIN.
-use Rattle.std.proofs.Common.{◌≡◌, ◌⊎◌, ℕ, true, not, List, [], ◌∷◌, None, Result, Ok, Err, IfErr, refl, ap, sym, ◌∙◌, subst, ⊎_elim, inl, inr}
-use Rattle.binlog.specs.Rows.{RowsValue}
-use Rattle.binlog.specs.Table.{TableValue}
-use Rattle.binlog.specs.Event.{EventValue, begin, gtid, table_map, other_map, rows}
-use Rattle.gather.specs.Transaction.{ChangeValue, map_of, AreChanges}
-use Rattle.gather.specs.Fault.{is_open, IsRowsFault, HasChange}
+use Rattle.gather.proofs.Names.{◌≡◌, ◌⊎◌, ℕ, true, not, List, [], ◌∷◌, None, Result, Ok, Err, refl, ap, sym, ◌∙◌, subst, ⊎_elim, inl, inr, RowsValue, TableValue, EventValue, gtid, table_map, other_map, ChangeValue, map_of, AreChanges, is_open, IsRowsFault, GatherFault}
+use Rattle.std.proofs.Common.{IfErr}
+use Rattle.binlog.specs.Event.{begin, rows}
+use Rattle.gather.specs.Fault.{HasChange}
 use Rattle.gather.specs.OpenTransaction.{HasTaken}
 use Rattle.gather.specs.State.{IsAt, BreaksOff, FaultsAt, AddsInside}
 use Rattle.gather.specs.declared.open_transaction.OpenTransaction.{OpenTransaction}
-use Rattle.gather.specs.declared.fault.GatherFault.{GatherFault}
 use Rattle.gather.specs.declared.fault.GatherFault.TheVariants.{Memory}
 use Rattle.gather.specs.declared.state.State.{State}
 use Rattle.gather.specs.declared.state.State.TheVariants.{Inside}

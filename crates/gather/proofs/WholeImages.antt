@@ -1,15 +1,13 @@
 -- Images of lists of cells: bytes are an image exactly if they are read as one.
-use Rattle.std.proofs.Common.{◌≡◌, ℕ, zero, suc, ◌+◌, ◌≤◌, true, List, [], ◌∷◌, ◌++◌, length, drop, Option, Some, None, refl, sym, ap, subst, ◌∙◌, arith}
-use Rattle.std.specs.Prelude.{nat_le, flat_map}
-use Rattle.std.specs.List.{AllByRecursion}
-use Rattle.std.proofs.lemmas.Bool.{and_parts, le-leb, leb-true}
-use Rattle.std.proofs.lemmas.List.{length-append, take-append-drop}
-use Rattle.byteorder.specs.Endian.{little_bytes, little_number}
-use Rattle.byteorder.specs.Numbers.{little_number-reads_back, little_from-lt, length-bytes_low_first}
-use Rattle.binlog.specs.Cell.{CellValue}
+use Rattle.gather.proofs.Names.{◌≡◌, ℕ, zero, suc, ◌+◌, ◌≤◌, true, List, [], ◌∷◌, ◌++◌, length, Option, Some, None, refl, sym, ap, subst, ◌∙◌, arith, nat_le, flat_map, AllByRecursion, and_parts, leb-true, length-append, little_bytes, length-bytes_low_first, CellValue, cell_image, image, HasCellImage, HasImage, cell_front, cells_in, are_images}
+use Rattle.std.proofs.Common.{drop}
+use Rattle.std.proofs.lemmas.Bool.{le-leb}
+use Rattle.std.proofs.lemmas.List.{take-append-drop}
+use Rattle.byteorder.specs.Endian.{little_number}
+use Rattle.byteorder.specs.Numbers.{little_number-reads_back, little_from-lt}
 use Rattle.wire.proofs.Cuts.{IsBytes, IsBytes-drop, number_at_front, drop_front, drop_at}
-use Rattle.gather.specs.Image.{cell_image, image, HasCellImage, HasImage, IsImage}
-use Rattle.gather.specs.ImageCells.{cell_front, cells_in, holds_after, are_images, is_image}
+use Rattle.gather.specs.Image.{IsImage}
+use Rattle.gather.specs.ImageCells.{holds_after, is_image}
 use Rattle.gather.proofs.CellImages.{front_is, image_is_read, images_are_read}
 
 -- ---- An image is read as one.

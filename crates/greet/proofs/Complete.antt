@@ -1,15 +1,11 @@
 -- Each payload is the expected message or is refused.
-use Rattle.std.proofs.Common.{◌≡◌, ℕ, ◌+◌, ◌*◌, ◌-◌, ◌<◌, ◌≤◌, ◌^◌, ◌==◌, max, Bool, true, false, cond, List, [], ◌∷◌, ◌++◌, length, get_or, take, drop, Option, Some, None, bit_and, refl, sym, ap, subst, ◌∙◌, arith, inl, inr}
-use Rattle.std.specs.Prelude.{nat_lt, nat_le, not, ◌⊎◌}
-use Rattle.std.specs.Str.{bytes_eq}
-use Rattle.std.proofs.lemmas.Bool.{cases_Bool, not-false, eqb-true, eqb-false, ltb-false, leb-false}
-use Rattle.std.proofs.lemmas.List.{drop-drop, nil_from_length, length-append, length-drop, length-take, take-append-drop}
+use Rattle.greet.proofs.Names.{◌≡◌, ℕ, ◌+◌, ◌*◌, ◌-◌, ◌<◌, ◌≤◌, ◌^◌, ◌==◌, max, Bool, true, false, cond, List, [], ◌∷◌, ◌++◌, length, get_or, take, Option, Some, None, bit_and, refl, sym, ap, subst, ◌∙◌, arith, inl, inr, nat_le, ◌⊎◌, bytes_eq, not-false, eqb-true, drop-drop, nil_from_length, length-append, length-drop, length-take, take-append-drop, little_number, IsText, needed, plugin_name, response_lead, IsGreeting, IsSwitch, IsOkPacket, IsEofPacket, IsDump, Refusal, truncated, protocol, plugin, before_zero, after_zero, dump_name_size, dump_set_size, HasGreeting, IsBytes, IsBytes-rest, IsBytes-after, IsBytes-drop}
+use Rattle.std.proofs.Common.{drop}
+use Rattle.std.specs.Prelude.{nat_lt, not}
+use Rattle.std.proofs.lemmas.Bool.{cases_Bool, eqb-false, ltb-false, leb-false}
 use Rattle.std.proofs.Math.Seq.{drop-cons}
-use Rattle.byteorder.specs.Endian.{little_number}
-use Rattle.greet.specs.Message.{IsText, needed, plugin_name, response_lead, IsGreeting, IsSwitch, IsOkPacket, IsEofPacket, IsDump}
-use Rattle.greet.specs.Refusal.{Refusal, truncated, protocol, plugin, old_auth, unexpected, capabilities, has_zero, before_zero, after_zero, has_insert_id, after_int, dump_name_size, dump_set_size, error_of, fields_refusal, greeting_refusal, end_refusal, response_refusal, switch_refusal, reply_refusal, ok_refusal, eof_refusal, dump_refusal}
-use Rattle.greet.specs.Complete.{HasGreeting, HasResponse, HasSwitch, HasDump}
-use Rattle.wire.proofs.Cuts.{IsBytes, IsBytes-rest, IsBytes-after, IsBytes-drop}
+use Rattle.greet.specs.Refusal.{old_auth, unexpected, capabilities, has_zero, has_insert_id, after_int, error_of, fields_refusal, greeting_refusal, end_refusal, response_refusal, switch_refusal, reply_refusal, ok_refusal, eof_refusal, dump_refusal}
+use Rattle.greet.specs.Complete.{HasResponse, HasSwitch, HasDump}
 use Rattle.greet.proofs.Greetings.{greeting_of, is_greeting}
 use Rattle.greet.proofs.Replies.{is_switch, is_ok, is_eof, same_name}
 use Rattle.greet.proofs.Responses.{is_response, no_difference}

@@ -1,10 +1,9 @@
 -- Messages cut into parts.
-use Rattle.std.proofs.Common.{◌≡◌, ℕ, true, false, ◌==◌, List, [], ◌∷◌, ◌++◌, refl, ◌∙◌, append_assoc}
+use Rattle.greet.proofs.Names.{◌≡◌, ℕ, true, false, ◌==◌, List, [], ◌∷◌, ◌++◌, refl, ◌∙◌, append_assoc, ne_eqb, IsText, before_zero, after_zero}
 use Rattle.std.proofs.Math.Bool.{or-true}
-use Rattle.std.proofs.lemmas.Bool.{eqb-false, ne_eqb, or_parts}
+use Rattle.std.proofs.lemmas.Bool.{eqb-false, or_parts}
 use Rattle.wire.proofs.Cuts.{right_7}
-use Rattle.greet.specs.Message.{IsText}
-use Rattle.greet.specs.Refusal.{has_zero, before_zero, after_zero}
+use Rattle.greet.specs.Refusal.{has_zero}
 
 -- ---- Texts that end with a zero byte.
 

@@ -1,17 +1,14 @@
 -- Dump commands: what they say, and that anything else is refused.
-use Rattle.std.proofs.Common.{◌≡◌, ◌≢◌, ℕ, ◌+◌, ◌<◌, ◌≤◌, List, [], ◌∷◌, ◌++◌, length, take, drop, Some, None, Result, Ok, Err, refl, sym, ap, subst, ◌∙◌, arith}
-use Rattle.std.proofs.lemmas.Bool.{ne_eqb, eq-eqb}
-use Rattle.std.proofs.lemmas.List.{drop-drop, length-append, length-drop, length-take}
-use Rattle.std.specs.Prelude.{IfOk, IfErr, MatchResult}
-use Rattle.byteorder.specs.Endian.{little_bytes, little_number}
-use Rattle.byteorder.specs.Numbers.{little_from-lt}
-use Rattle.greet.specs.Message.{DumpValue, IsDump}
-use Rattle.greet.specs.Refusal.{truncated, dump_name_size, dump_set_size, dump_refusal}
+use Rattle.greet.proofs.Names.{◌≡◌, ◌≢◌, ℕ, ◌+◌, ◌<◌, ◌≤◌, List, [], ◌∷◌, ◌++◌, length, take, Some, None, Result, Ok, Err, refl, sym, ap, subst, ◌∙◌, arith, ne_eqb, drop-drop, length-append, length-drop, length-take, IfOk, IfErr, little_bytes, little_number, little_from-lt, IsDump, truncated, dump_name_size, dump_set_size, GreetFault, IsBytes, IsBytes-drop}
+use Rattle.std.proofs.Common.{drop}
+use Rattle.std.proofs.lemmas.Bool.{eq-eqb}
+use Rattle.std.specs.Prelude.{MatchResult}
+use Rattle.greet.specs.Message.{DumpValue}
+use Rattle.greet.specs.Refusal.{dump_refusal}
 use Rattle.greet.specs.View.{dump_value, Refuses}
 use Rattle.greet.specs.declared.command.Dump.{Dump}
-use Rattle.greet.specs.declared.fault.GreetFault.{GreetFault}
 use Rattle.greet.specs.declared.fault.GreetFault.TheVariants as faults
-use Rattle.wire.proofs.Cuts.{IsBytes, IsBytes-drop, number_at_front, number_is, cut, after, right_7}
+use Rattle.wire.proofs.Cuts.{number_at_front, number_is, cut, after, right_7}
 
 -- what a dump command says, from the bytes after its first
 abbrev pub dump_of : List ℕ → DumpValue

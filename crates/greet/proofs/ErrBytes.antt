@@ -1,14 +1,11 @@
 -- What is reported as an error of the source is an ERR.
-use Rattle.std.proofs.Common.{◌≡◌, ◌≢◌, ℕ, ◌<◌, ◌≤◌, ◌==◌, Bool, true, false, cond, List, [], ◌∷◌, length, get_or, take, drop, Option, Some, None, refl, sym, ap, ◌∙◌, subst, arith, inl, inr}
-use Rattle.std.specs.Prelude.{◌⊎◌, nat_le}
-use Rattle.std.proofs.lemmas.Bool.{and_parts, false≢true, le-leb, leb-true, eqb-true, le-ltb, lt-ltb, cases_lt}
-use Rattle.std.proofs.lemmas.List.{length-take, take-append-drop}
-use Rattle.byteorder.specs.Endian.{little_number}
-use Rattle.byteorder.specs.Numbers.{little_from-lt}
-use Rattle.wire.proofs.Cuts.{IsBytes, IsBytes-rest, number_at_front}
+use Rattle.greet.proofs.Names.{◌≡◌, ◌≢◌, ℕ, ◌<◌, ◌≤◌, ◌==◌, Bool, true, false, cond, List, [], ◌∷◌, length, get_or, take, Option, Some, None, refl, sym, ap, ◌∙◌, subst, arith, inl, inr, ◌⊎◌, nat_le, le-leb, eqb-true, le-ltb, lt-ltb, length-take, take-append-drop, little_number, little_from-lt, IsBytes, IsBytes-rest, Refusal, server_error, protocol, truncated, plugin, state_of, message_of, after_zero}
+use Rattle.std.proofs.Common.{drop}
+use Rattle.std.proofs.lemmas.Bool.{and_parts, false≢true, leb-true, cases_lt}
+use Rattle.wire.proofs.Cuts.{number_at_front}
 use Rattle.greet.specs.Message.{IsErrorText, IsErrPacket}
 use Rattle.greet.specs.Complete.{HasErr, IsErrOf}
-use Rattle.greet.specs.Refusal.{Refusal, server_error, protocol, truncated, capabilities, plugin, old_auth, unexpected, has_state, state_of, message_of, error_of, after_zero, fields_refusal, greeting_refusal, ok_refusal, switch_refusal, reply_refusal, eof_refusal}
+use Rattle.greet.specs.Refusal.{capabilities, old_auth, unexpected, has_state, error_of, fields_refusal, greeting_refusal, ok_refusal, switch_refusal, reply_refusal, eof_refusal}
 
 -- ---- The text of an ERR.
 

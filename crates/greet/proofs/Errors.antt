@@ -1,13 +1,11 @@
 -- ERR packets of a source: what they say, and that they are reported instead of any message.
-use Rattle.std.proofs.Common.{◌≡◌, ◌≢◌, ℕ, ◌<◌, true, false, List, [], ◌∷◌, ◌++◌, length, take, drop, Option, Some, None, refl, sym, ap, ◌∙◌, arith, inl, inr}
-use Rattle.std.specs.Prelude.{nat_le}
+use Rattle.greet.proofs.Names.{◌≡◌, ◌≢◌, ℕ, ◌<◌, true, false, List, [], ◌∷◌, ◌++◌, length, take, Option, Some, None, refl, sym, ap, ◌∙◌, arith, inl, inr, nat_le, le-leb, lt-leb, ne_eqb, le-ltb, length-append, take_at, little_bytes, little_number, server_error, state_of, message_of}
+use Rattle.std.proofs.Common.{drop}
 use Rattle.std.proofs.Math.Bool.{and-false}
-use Rattle.std.proofs.lemmas.Bool.{le-leb, lt-leb, ne_eqb, le-ltb}
-use Rattle.std.proofs.lemmas.List.{length-append, take_at, drop_at}
-use Rattle.byteorder.specs.Endian.{little_bytes, little_number}
+use Rattle.std.proofs.lemmas.List.{drop_at}
 use Rattle.byteorder.specs.Numbers.{little_number-reads_back}
 use Rattle.greet.specs.Message.{IsErrorText, IsErrPacket}
-use Rattle.greet.specs.Refusal.{server_error, has_state, state_of, message_of, kept_message, error_of, greeting_refusal, reply_refusal, ok_refusal, eof_refusal}
+use Rattle.greet.specs.Refusal.{has_state, kept_message, error_of, greeting_refusal, reply_refusal, ok_refusal, eof_refusal}
 
 -- the text has a state, and which; or it has none
 marked : (state message : List ℕ) → length state ≡ 5 → has_state (0x23 ∷ (state ++ message)) ≡ true

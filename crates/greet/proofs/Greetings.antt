@@ -1,12 +1,9 @@
 -- Greetings: what they say, and that anything else is refused.
-use Rattle.std.proofs.Common.{◌≡◌, ℕ, zero, suc, ◌+◌, ◌*◌, ◌-◌, ◌<◌, ◌≤◌, ◌^◌, max, List, [], ◌∷◌, ◌++◌, length, get_or, take, drop, Some, None, bit_and, refl, sym, ap, ◌∙◌, arith}
-use Rattle.std.proofs.lemmas.Bool.{le-ltb, lt-ltb}
-use Rattle.std.proofs.lemmas.List.{drop-drop, length-append, length-drop, length-take, take_at, take-append-le, take-append-drop}
-use Rattle.byteorder.specs.Endian.{little_bytes, little_number}
-use Rattle.byteorder.specs.Numbers.{little_from-lt}
-use Rattle.greet.specs.Message.{IsText, needed, GreetingValue, IsGreeting}
-use Rattle.greet.specs.Refusal.{truncated, before_zero, after_zero, fields_refusal, greeting_refusal}
-use Rattle.wire.proofs.Cuts.{IsBytes, IsBytes-drop, number_at_front, number_is, first_left, cut, one, after}
+use Rattle.greet.proofs.Names.{◌≡◌, ℕ, suc, ◌+◌, ◌*◌, ◌-◌, ◌<◌, ◌≤◌, ◌^◌, max, List, [], ◌∷◌, ◌++◌, length, get_or, take, Some, None, bit_and, refl, sym, ap, ◌∙◌, arith, le-ltb, lt-ltb, drop-drop, length-append, length-drop, length-take, take_at, take-append-drop, little_bytes, little_number, little_from-lt, IsText, needed, GreetingValue, IsGreeting, truncated, before_zero, after_zero, IsBytes, IsBytes-drop}
+use Rattle.std.proofs.Common.{zero, drop}
+use Rattle.std.proofs.lemmas.List.{take-append-le}
+use Rattle.greet.specs.Refusal.{fields_refusal, greeting_refusal}
+use Rattle.wire.proofs.Cuts.{number_at_front, number_is, first_left, cut, one, after}
 use Rattle.greet.proofs.Cuts.{after_zero-text, after_zero-none, before_zero-text, right_9}
 
 -- what a greeting says

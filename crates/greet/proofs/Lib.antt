@@ -1,11 +1,12 @@
-mod Appended
+mod PartLists
 mod Cuts
+mod Names
 mod Readers
 pub mod Greetings
 pub mod Replies
 mod Responses
 mod Dumps
 mod Errors
-mod Written
+mod MessageBytes
 mod Complete
 mod ErrBytes

@@ -1,9 +1,7 @@
 -- What every reader of a message has in common.
-use Rattle.std.proofs.Common.{◌≡◌, ℕ, List, Option, None, Result, Ok, Err, subst, refl}
-use Rattle.std.specs.Prelude.{⊤, IfOk, IfErr, MatchResult}
-use Rattle.greet.specs.Refusal.{Refusal}
+use Rattle.greet.proofs.Names.{◌≡◌, ℕ, List, Option, None, Result, Ok, Err, subst, refl, IfOk, IfErr, Refusal, GreetFault}
+use Rattle.std.specs.Prelude.{⊤, MatchResult}
 use Rattle.greet.specs.View.{Refuses}
-use Rattle.greet.specs.declared.fault.GreetFault.{GreetFault}
 use Rattle.greet.specs.declared.fault.GreetFault.TheVariants as faults
 
 -- if nothing is refused, the only fault is that memory ran out

@@ -1,20 +1,15 @@
 -- The source's replies: what they say, and that anything else is refused.
-use Rattle.std.proofs.Common.{◌≡◌, ℕ, ◌<◌, ◌≤◌, ◌^◌, ◌==◌, ◌&&◌, Bool, true, false, cond, List, [], ◌∷◌, ◌++◌, length, get_or, take, drop, Option, Some, None, Result, Ok, Err, refl, sym, ap, subst, ◌∙◌, append_assoc, arith, inl, inr}
-use Rattle.std.specs.Prelude.{nat_le, ◌⊎◌, IfNone, OnOk, OnErr, IfErr}
+use Rattle.greet.proofs.Names.{◌≡◌, ℕ, ◌<◌, ◌≤◌, ◌^◌, ◌==◌, Bool, true, false, cond, List, [], ◌∷◌, ◌++◌, length, get_or, take, Option, Some, None, Result, Ok, Err, refl, sym, ap, subst, ◌∙◌, append_assoc, arith, inl, inr, nat_le, ◌⊎◌, OnOk, IfErr, GreetFault, le-leb, lt-leb, eqb-true, le-ltb, lt-ltb, ne_eqb, length-append, length-take, take-append-drop, take_at, bytes_eq, little_bytes, little_number, little_from-lt, plugin_name, IsText, IsOkPacket, IsEofPacket, IsSwitch, truncated, plugin, IsBytes, IsBytes-after, IsBytes-rest}
+use Rattle.std.proofs.Common.{◌&&◌, drop}
+use Rattle.std.specs.Prelude.{IfNone, OnErr}
 use Rattle.greet.specs.View.{Refuses}
-use Rattle.greet.specs.declared.fault.GreetFault.{GreetFault}
 use Rattle.greet.specs.declared.fault.GreetFault.TheVariants as faults
 use Rattle.std.proofs.Math.Seq.{take-append_seam}
-use Rattle.std.proofs.lemmas.Bool.{and_parts, false≢true, le-leb, lt-leb, leb-true, eqb-true, le-ltb, lt-ltb, ne_eqb}
-use Rattle.std.proofs.lemmas.List.{length-append, length-take, take-append-drop, take_at}
+use Rattle.std.proofs.lemmas.Bool.{and_parts, false≢true, leb-true}
 use Rattle.std.proofs.lemmas.Slice.Eq.{bytes_eq-Decides}
-use Rattle.std.specs.Str.{bytes_eq}
-use Rattle.byteorder.specs.Endian.{little_bytes, little_number}
-use Rattle.byteorder.specs.Numbers.{little_from-lt}
 use Rattle.wire.specs.Integer.{IsLengthEncoded}
-use Rattle.greet.specs.Message.{plugin_name, IsText, IsOkPacket, IsEofPacket, IsSwitch}
-use Rattle.greet.specs.Refusal.{truncated, plugin, after_int, has_counters, has_insert_id, ok_refusal, eof_refusal, switch_refusal, reply_refusal}
-use Rattle.wire.proofs.Cuts.{IsBytes, IsBytes-after, IsBytes-rest, number_at_front, right_4}
+use Rattle.greet.specs.Refusal.{after_int, has_counters, has_insert_id, ok_refusal, eof_refusal, switch_refusal, reply_refusal}
+use Rattle.wire.proofs.Cuts.{number_at_front, right_4}
 use Rattle.greet.proofs.Cuts.{IsText-by, has_zero-none, has_zero-text, before_zero-text, after_zero-text}
 
 -- ---- Length-encoded integers.

@@ -1,26 +1,16 @@
 -- The spans around the intervals of a source, and the set with one more number.
-use Rattle.std.proofs.Common.{◌≡◌, ◌≢◌, ℕ, zero, suc, ◌<◌, Bool, true, false, nat_eq, ◌&&◌, ◌||◌, List, [], ◌∷◌, ◌++◌, map, length, slice_index_or, refl, ap, sym, subst, ◌∙◌, arith, Option, Some, None, IfSome, subst₂}
-use Rattle.std.specs.declared.cmp.Ordering.TheVariants.{Less}
-use Rattle.std.specs.Ordering.{nat_cmp}
-use Rattle.std.specs.Cmp.Lexicographic.{slice_cmp}
+use Rattle.gtid.proofs.Names.{◌≡◌, ◌≢◌, ℕ, zero, suc, ◌<◌, Bool, true, false, nat_eq, ◌&&◌, ◌||◌, List, [], ◌∷◌, ◌++◌, map, length, slice_index_or, refl, ap, sym, subst, ◌∙◌, arith, Option, Some, None, IfSome, Less, nat_cmp, slice_cmp, list_any, bytes_eq, list_any-append, Id, Ids, has, AreLeast, Ascend, IsBelow, IsGap, IsLeast, IsLeastList, IsLawfulSpan, spans_of, Interval, Group, Span}
+use Rattle.std.proofs.Common.{subst₂}
 use Rattle.std.specs.FinSet as set
-use Rattle.std.specs.List.{list_any}
 use Rattle.std.specs.Option.{option_map}
-use Rattle.std.specs.Str.{bytes_eq}
 use Rattle.std.proofs.lemmas.List.{append_assoc, map-append}
-use Rattle.std.proofs.lemmas.List.Folds.{list_any-append}
-use Rattle.gtid.specs.Identifier.{Id, Ids}
-use Rattle.gtid.specs.Interval.{has, AreLeast}
-use Rattle.gtid.specs.Group.{Ascend, sources, IsBelow, IsGap, ids_of}
-use Rattle.gtid.specs.Span.{is_in, IsLeast, IsLeastList, IsLawfulSpan}
-use Rattle.gtid.specs.Spans.{span, spans_of_group, spans_of}
+use Rattle.gtid.specs.Group.{sources, ids_of}
+use Rattle.gtid.specs.Span.{is_in}
+use Rattle.gtid.specs.Spans.{span, spans_of_group}
 use Rattle.gtid.specs.Beside.{one_or_none, joined, joined_interval, Joins, Touches, Among}
 use Rattle.gtid.specs.declared.beside.Beside.{Beside}
-use Rattle.gtid.specs.declared.interval.Interval.{Interval}
-use Rattle.gtid.specs.declared.group.Group.{Group}
-use Rattle.gtid.specs.declared.span.Span.{Span}
-use Rattle.gtid.proofs.Merged.{ascend_first}
-use Rattle.gtid.proofs.Placed.{below_at}
+use Rattle.gtid.proofs.GroupMerge.{ascend_first}
+use Rattle.gtid.proofs.SourcePlace.{below_at}
 use Rattle.gtid.proofs.Sets.{id_cmp_total, tied}
 use Rattle.gtid.proofs.LeastList.{IsUnder, least_group, under_first, under_groups, least_spans, in_group, least_list_of}
 use Rattle.gtid.proofs.OneLeastList.{one_least_list}

@@ -1,22 +1,10 @@
 -- The spans of groups are the least intervals of their set.
-use Rattle.std.proofs.Common.{◌≡◌, ◌≢◌, ℕ, ◌<◌, inl, inr, false, ◌&&◌, ◌||◌, List, [], ◌∷◌, ◌++◌, map, refl, ap, sym, subst, ◌∙◌}
-use Rattle.std.specs.declared.cmp.Ordering.TheVariants.{Less}
-use Rattle.std.specs.Ordering.{nat_cmp}
-use Rattle.std.specs.Cmp.Lexicographic.{slice_cmp}
-use Rattle.std.specs.List.{list_any}
-use Rattle.std.specs.Str.{bytes_eq}
+use Rattle.gtid.proofs.Names.{◌≡◌, ◌≢◌, ℕ, ◌<◌, inl, inr, false, ◌&&◌, ◌||◌, List, [], ◌∷◌, ◌++◌, map, refl, ap, sym, subst, ◌∙◌, Less, nat_cmp, slice_cmp, list_any, bytes_eq, and_right, list_any-append, Id, Ids, AreLeast, is_within, has, Ascend, IsBelow, is_listed, IsBefore, IsLeast, IsLeastList, spans_of, Interval, Group, Span}
 use Rattle.std.proofs.Math.Bool.{and-or_distrib_left}
-use Rattle.std.proofs.lemmas.Bool.{and_right}
-use Rattle.std.proofs.lemmas.List.Folds.{list_any-append}
-use Rattle.gtid.specs.Identifier.{Id, Ids}
-use Rattle.gtid.specs.Interval.{AreLeast, is_within, has}
-use Rattle.gtid.specs.Group.{Ascend, sources, IsBelow, is_listed, ids_of}
-use Rattle.gtid.specs.Span.{is_in, IsBefore, IsLeast, IsLeastList}
-use Rattle.gtid.specs.Spans.{span, spans_of_group, spans_of}
-use Rattle.gtid.specs.declared.interval.Interval.{Interval}
-use Rattle.gtid.specs.declared.group.Group.{Group}
-use Rattle.gtid.specs.declared.span.Span.{Span}
-use Rattle.gtid.proofs.Merged.{ascend_first}
+use Rattle.gtid.specs.Group.{sources, ids_of}
+use Rattle.gtid.specs.Span.{is_in}
+use Rattle.gtid.specs.Spans.{span, spans_of_group}
+use Rattle.gtid.proofs.GroupMerge.{ascend_first}
 use Rattle.gtid.proofs.Sets.{contains_listed}
 
 -- the span is before the first of the list

@@ -1,16 +1,8 @@
 -- The first groups of two lists.
-use Rattle.std.proofs.Common.{◌≡◌, ℕ, ◌<◌, inl, inr, true, List, [], ◌∷◌, length, refl, ap, sym, ◌∙◌, arith, slice_index_or, take, drop, ◌-◌}
-use Rattle.std.specs.declared.cmp.Ordering.{Ordering}
-use Rattle.std.specs.declared.cmp.Ordering.TheVariants.{Less, Equal, Greater}
-use Rattle.std.specs.Ordering.{nat_cmp, ordering_reverse}
-use Rattle.std.specs.Cmp.Lexicographic.{slice_cmp, nat_list_cmp_total}
+use Rattle.gtid.proofs.Names.{◌≡◌, ℕ, ◌<◌, inl, inr, true, List, [], ◌∷◌, length, refl, ap, sym, ◌∙◌, arith, slice_index_or, take, ◌-◌, Ordering, Less, Equal, Greater, nat_cmp, ordering_reverse, slice_cmp, nat_list_cmp_total, bytes_eq, bytes_eq-Decides, take_all, IsNext, IsNoHigher, Group, Interval}
+use Rattle.std.proofs.Common.{drop}
 use Rattle.std.specs.FinSet as set
-use Rattle.std.specs.Str.{bytes_eq}
-use Rattle.std.proofs.lemmas.Slice.Eq.{bytes_eq-Decides}
-use Rattle.std.proofs.lemmas.List.{take_all}
-use Rattle.gtid.specs.Group.{IsNext, IsNoHigher, Splits}
-use Rattle.gtid.specs.declared.group.Group.{Group}
-use Rattle.gtid.specs.declared.interval.Interval.{Interval}
+use Rattle.gtid.specs.Group.{Splits}
 
 pub next_at : (groups : List Group) (g : Group) → 0 < length groups → g ≡ slice_index_or groups 0 g → IsNext g.source groups
 next_at [] g some is = absurd (omega (arith, some))

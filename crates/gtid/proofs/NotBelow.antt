@@ -1,9 +1,6 @@
 -- No source is below itself.
-use Rattle.std.proofs.Common.{◌≡◌, ℕ, List, sym, ◌∙◌}
-use Rattle.std.specs.declared.cmp.Ordering.TheVariants.{Less, Equal}
-use Rattle.std.specs.Ordering.{nat_cmp}
+use Rattle.gtid.proofs.Names.{◌≡◌, ℕ, List, sym, ◌∙◌, Less, Equal, nat_cmp, slice_cmp, nat_list_cmp_total}
 use Rattle.std.specs.Cmp.{tied_itself}
-use Rattle.std.specs.Cmp.Lexicographic.{slice_cmp, nat_list_cmp_total}
 
 not_equal : Less ≡ Equal → ⊥
 not_equal e = Prim.cc

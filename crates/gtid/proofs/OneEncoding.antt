@@ -1,15 +1,11 @@
 -- Bytes begin with one encoding at most, and then they are not at fault.
-use Rattle.std.proofs.Common.{◌≡◌, ℕ, ◌+◌, ◌-◌, ◌<◌, ◌≤◌, ◌^◌, Bool, true, false, not, ◌||◌, ◌==◌, nat_le, nat_lt, List, [], ◌∷◌, ◌++◌, length, map, flat_map, take, drop, append_assoc, Option, Some, None, refl, ap, sym, subst, ◌∙◌, arith}
+use Rattle.gtid.proofs.Names.{◌≡◌, ℕ, ◌+◌, ◌-◌, ◌<◌, ◌≤◌, ◌^◌, Bool, true, false, not, ◌||◌, ◌==◌, nat_le, nat_lt, List, [], ◌∷◌, ◌++◌, length, map, flat_map, take, append_assoc, Option, Some, None, refl, ap, sym, subst, ◌∙◌, arith, last_or, length-append, nat_tests, little_bytes, little_number, SidBlock, interval_bytes, block_bytes, blocks_bytes, interval_fault, is_above, source_fault, last_hi, last_source, AreIntervals, AreSidBlocks, IsDecodeFault, at_source, at_interval, GtidFault, Truncated}
+use Rattle.std.proofs.Common.{drop}
 use Rattle.std.proofs.Math.Seq.{take-append_seam, drop-append_seam}
-use Rattle.std.specs.List.{last_or}
-use Rattle.std.proofs.lemmas.List.{length-append}
-use Rattle.std.proofs.lemmas.Bool.Decides.{nat_tests}
-use Rattle.byteorder.specs.Endian.{little_bytes, little_number}
 use Rattle.byteorder.specs.Numbers.{little_number-reads_back}
-use Rattle.gtid.specs.Encoding.{SidBlock, interval_bytes, block_bytes, blocks_bytes, first_fault, interval_fault, is_above, source_fault, last_hi, last_source, AreIntervals, AreSidBlocks, IsDecodeFault}
-use Rattle.gtid.specs.Encoding.IsDecodeFault.{no_count, at_source, at_interval}
-use Rattle.gtid.specs.declared.fault.GtidFault.{GtidFault}
-use Rattle.gtid.specs.declared.fault.GtidFault.TheVariants.{Number, Interval, Truncated, Order}
+use Rattle.gtid.specs.Encoding.{first_fault}
+use Rattle.gtid.specs.Encoding.IsDecodeFault.{no_count}
+use Rattle.gtid.specs.declared.fault.GtidFault.TheVariants.{Number, Interval, Order}
 
 -- ---- Fronts.
 

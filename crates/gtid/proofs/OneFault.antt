@@ -1,10 +1,7 @@
 -- Bytes have one fault at most.
-use Rattle.std.proofs.Common.{◌≡◌, ℕ, ◌<◌, inl, inr, List, ◌++◌, length, flat_map, append_assoc, None, Some, refl, ap, sym, ◌∙◌, arith}
-use Rattle.std.proofs.lemmas.Bool.{cases_order}
-use Rattle.byteorder.specs.Endian.{little_bytes}
-use Rattle.gtid.specs.Encoding.{interval_bytes, block_bytes, interval_fault, source_fault, last_hi, last_source, FaultsAtSource, FaultsAtInterval, IsDecodeFault}
-use Rattle.gtid.specs.Encoding.IsDecodeFault.{no_count, at_source, at_interval}
-use Rattle.gtid.specs.declared.fault.GtidFault.{GtidFault}
+use Rattle.gtid.proofs.Names.{◌≡◌, ℕ, ◌<◌, inl, inr, List, ◌++◌, length, flat_map, append_assoc, None, Some, refl, ap, sym, ◌∙◌, arith, cases_order, little_bytes, interval_bytes, block_bytes, interval_fault, source_fault, last_hi, last_source, IsDecodeFault, at_source, at_interval, GtidFault}
+use Rattle.gtid.specs.Encoding.{FaultsAtSource, FaultsAtInterval}
+use Rattle.gtid.specs.Encoding.IsDecodeFault.{no_count}
 use Rattle.gtid.proofs.OneEncoding.{same_front, same_number, lawful_source, pair_end, ends_at, next_interval, none_some, no_interval_fault, same_intervals, next_block, no_source_fault, no_block_fault, same_blocks, flatten}
 
 same_some : {X : Type 0} {x y : X} → Some x ≡ Some y → x ≡ y

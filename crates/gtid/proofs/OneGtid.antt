@@ -1,21 +1,15 @@
 -- The text of one GTID, by its parts.
-use Rattle.std.proofs.Common.{◌≡◌, ◌≢◌, ℕ, ◌+◌, ◌*◌, ◌-◌, ◌<◌, ◌≤◌, ◌^◌, ◌==◌, ◌&&◌, ◌||◌, ◌↔◌, Bool, true, false, if◌then◌else◌, inl, inr, Option, Some, None, IsSome, IfSome, IsSomeAnd, MatchOption, Bor, Result, Ok, Err, IsOk, IfOk, List, [], ◌∷◌, ◌++◌, length, get_or, slice_index, fold, unwrap_or, true≢false, refl, ap, sym, subst, ◌∙◌, arith, rules, lit<}
-use Rattle.std.specs.List.{list_all, AllByRecursion}
-use Rattle.std.specs.Char.{IsAsciiDigit}
+use Rattle.gtid.proofs.Names.{◌≡◌, ◌≢◌, ℕ, ◌+◌, ◌*◌, ◌-◌, ◌<◌, ◌≤◌, ◌^◌, ◌==◌, ◌&&◌, ◌||◌, Bool, true, false, if◌then◌else◌, inl, inr, Option, Some, None, IfSome, Result, Ok, Err, IfOk, List, [], ◌∷◌, ◌++◌, length, get_or, slice_index, fold, refl, ap, sym, subst, ◌∙◌, arith, rules, AllByRecursion, IsAsciiDigit, str_to_ascii_lowercase, and_parts, or_cases, nat_tests, All-from_recursion, hyphenated_text, lower, is_hyphen_place, digit_place, by_index_at, by_index_length, Id, id, IsSource, IsGtid, stands_at, IsNumeral}
+use Rattle.std.proofs.Common.{◌↔◌, IsSome, IsSomeAnd, MatchOption, Bor, IsOk, unwrap_or, true≢false, lit<}
+use Rattle.std.specs.List.{list_all}
 use Rattle.std.specs.Result.{result_ok}
-use Rattle.std.specs.Str.{str_to_ascii_lowercase}
 use Rattle.std.specs.Str.Parse.{ParsesUnsigned}
-use Rattle.std.proofs.lemmas.Bool.{and_parts, or_cases}
-use Rattle.std.proofs.lemmas.Bool.Decides.{nat_tests}
-use Rattle.std.proofs.lemmas.List.Elements.{All-from_recursion}
 use Rattle.std.proofs.lemmas.Str.Parse.{IsNumeralModel, numerals_by_fold, parse_plain, parse_gives}
 use Rattle.std.proofs.lemmas.Str.Pattern.{IsSplitOnceResult, split_after}
-use Rattle.uuid.specs.Text.{hyphenated_text, lower, is_hyphen_place, is_hex_digit, hex_digit_value, byte_of_digits, by_index, digits_of, has_hyphens, parsed_simple, parsed_hyphenated, digit_place, hyphen_place}
-use Rattle.uuid.proofs.TextLemmas.{by_index_at, by_index_length, simple_some, simple_none, hyphens_pass}
+use Rattle.uuid.specs.Text.{is_hex_digit, hex_digit_value, byte_of_digits, by_index, digits_of, has_hyphens, parsed_simple, parsed_hyphenated, hyphen_place}
+use Rattle.uuid.proofs.TextLemmas.{simple_some, simple_none, hyphens_pass}
 use Rattle.uuid.proofs.RoundTrips.{parses_hyphenated_text}
-use Rattle.gtid.specs.Identifier.{Id, id, IsSource, IsGtid}
-use Rattle.gtid.specs.Scan.{stands_at}
-use Rattle.gtid.specs.Text.{IsNumeral, IsGtidText}
+use Rattle.gtid.specs.Text.{IsGtidText}
 use Rattle.gtid.specs.declared.identifier.Gtid.{Gtid}
 use Rattle.gtid.proofs.SourceText.{StandFrom, stands_in, source_length, source_stands, stand_by_place, bytes_of, digit_stands, spelled_source, spelled_text}
 

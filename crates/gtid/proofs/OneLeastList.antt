@@ -1,18 +1,8 @@
 -- A set has one list of least intervals.
-use Rattle.std.proofs.Common.{◌≡◌, ◌<◌, ◌≤◌, ◌⊎◌, inl, inr, Bool, true, false, ◌&&◌, ◌||◌, nat_le, nat_lt, ℕ, List, [], ◌∷◌, refl, ap, sym, subst, ◌∙◌, arith}
-use Rattle.std.specs.declared.cmp.Ordering.{Ordering}
-use Rattle.std.specs.declared.cmp.Ordering.TheVariants.{Less, Equal, Greater}
-use Rattle.std.specs.Ordering.{nat_cmp, ordering_reverse}
-use Rattle.std.specs.Cmp.Lexicographic.{slice_cmp, nat_list_cmp_total}
+use Rattle.gtid.proofs.Names.{◌≡◌, ◌<◌, ◌≤◌, ◌⊎◌, inl, inr, Bool, true, false, ◌&&◌, ◌||◌, nat_le, nat_lt, ℕ, List, [], ◌∷◌, refl, ap, sym, subst, ◌∙◌, arith, Ordering, Less, Equal, Greater, nat_cmp, ordering_reverse, slice_cmp, nat_list_cmp_total, list_any, bytes_eq, cases_order, nat_tests, bytes_eq-Decides, Id, Ids, IsBefore, IsLeast, IsLeastList, Span}
 use Rattle.std.specs.FinSet as set
-use Rattle.std.specs.List.{list_any}
-use Rattle.std.specs.Str.{bytes_eq}
-use Rattle.std.proofs.lemmas.Bool.{or_from, cases_order}
-use Rattle.std.proofs.lemmas.Bool.Decides.{nat_tests}
-use Rattle.std.proofs.lemmas.Slice.Eq.{bytes_eq-Decides}
-use Rattle.gtid.specs.Identifier.{Id, Ids}
-use Rattle.gtid.specs.Span.{is_in, IsBefore, IsLeast, IsLeastList}
-use Rattle.gtid.specs.declared.span.Span.{Span}
+use Rattle.std.proofs.lemmas.Bool.{or_from}
+use Rattle.gtid.specs.Span.{is_in}
 use Rattle.gtid.proofs.NotBelow.{not_below_itself}
 
 -- the GTID is below the span

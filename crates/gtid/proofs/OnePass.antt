@@ -1,18 +1,10 @@
 -- Whether one list is within another or apart from it, found in one pass over both.
-use Rattle.std.proofs.Common.{◌≡◌, ℕ, ◌⊎◌, inl, inr, Bool, true, false, ◌&&◌, ◌||◌, ◌<◌, ◌≤◌, List, [], ◌∷◌, length, drop, slice_index_or, refl, ap, sym, ◌∙◌, arith}
-use Rattle.std.specs.Bool.{IsTrue}
-use Rattle.std.proofs.Math.Bool.{or-false}
-use Rattle.std.proofs.lemmas.Bool.{false≢true}
-use Rattle.std.proofs.lemmas.Bool.Decides.{nat_tests, leb_tells}
-use Rattle.std.proofs.lemmas.Slice.Eq.{bytes_eq-Decides}
-use Rattle.std.specs.Str.{bytes_eq}
-use Rattle.gtid.specs.Identifier.{Id}
-use Rattle.gtid.specs.Interval.{is_within, has, AreLeast}
-use Rattle.gtid.specs.Group.{Ascend, sources, is_listed, IsNext, IsNoHigher}
-use Rattle.gtid.specs.declared.interval.Interval.{Interval}
-use Rattle.gtid.specs.declared.group.Group.{Group}
+use Rattle.gtid.proofs.Names.{◌≡◌, ℕ, ◌⊎◌, inl, inr, Bool, true, false, ◌&&◌, ◌||◌, ◌<◌, ◌≤◌, List, [], ◌∷◌, length, slice_index_or, refl, ap, sym, ◌∙◌, arith, IsTrue, or-false, false≢true, nat_tests, bytes_eq-Decides, bytes_eq, Id, is_within, has, AreLeast, Ascend, is_listed, IsNext, IsNoHigher, Interval, Group}
+use Rattle.std.proofs.Common.{drop}
+use Rattle.std.proofs.lemmas.Bool.Decides.{leb_tells}
+use Rattle.gtid.specs.Group.{sources}
 use Rattle.gtid.proofs.Within.{below_least, is_above, is_below, is_in, none}
-use Rattle.gtid.proofs.Merged.{Taken, none_above, next_no_higher}
+use Rattle.gtid.proofs.GroupMerge.{Taken, none_above, next_no_higher}
 
 either : (a b : Bool) → (a || b) ≡ true → (a ≡ true) ⊎ (b ≡ true)
 either true b is = inl refl

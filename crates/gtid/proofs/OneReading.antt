@@ -1,19 +1,11 @@
 -- A text has only one meaning.
-use Rattle.std.proofs.Common.{◌≡◌, ℕ, List, map, refl, ap, sym, ◌∙◌, inl, inr, Some, None}
-use Rattle.std.proofs.lemmas.Bool.{cases_order}
+use Rattle.gtid.proofs.Names.{◌≡◌, ℕ, List, map, refl, ap, sym, ◌∙◌, inl, inr, Some, None, cases_order, Ids, list_any, SidBlock, span_of, IsList, list_fault, written_spans, first_some, IsRead, IsOutsideFrom, outside, written, GtidFault, Text}
 use Rattle.std.specs.FinSet as set
-use Rattle.gtid.specs.Identifier.{Ids}
 use Rattle.gtid.specs.Span.{is_in}
-use Rattle.std.specs.List.{list_any}
-use Rattle.gtid.specs.Encoding.{SidBlock}
-use Rattle.gtid.specs.Reading.{span_of}
-use Rattle.gtid.specs.Text.{IsList, list_fault, written_spans, first_some, IsRead, IsOutsideFrom, IsParseFault}
-use Rattle.gtid.specs.Text.IsParseFault.{outside, written}
-use Rattle.gtid.specs.declared.fault.GtidFault.{GtidFault}
-use Rattle.gtid.specs.declared.fault.GtidFault.TheVariants.{Text}
+use Rattle.gtid.specs.Text.{IsParseFault}
 use Rattle.gtid.proofs.Sets.{id_cmp_total, id_cmp-same}
-use Rattle.gtid.proofs.Judged.{faults_of, item_faults, item_spans}
-use Rattle.gtid.proofs.Collected.{read_list, zeros}
+use Rattle.gtid.proofs.TextFaults.{faults_of, item_faults, item_spans}
+use Rattle.gtid.proofs.TextItems.{read_list, zeros}
 
 -- all items of a text have the same fault
 same_fault : (text : List ℕ) (i j : List SidBlock) → IsList text i → IsList text j → list_fault i ≡ list_fault j

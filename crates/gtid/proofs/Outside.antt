@@ -1,14 +1,12 @@
 -- Some text of the grammar continues what the scan has read. None continues what it stops at.
-use Rattle.std.proofs.Common.{◌≡◌, ℕ, zero, suc, ◌+◌, ◌-◌, ◌<◌, ◌≤◌, ◌==◌, Bool, true, false, if◌then◌else◌, Some, None, List, [], ◌∷◌, ◌++◌, length, take, drop, get_or, refl, ap, sym, subst, ◌∙◌, arith, append-nil, length-append, true≢false, take-add, take_all}
-use Rattle.std.proofs.lemmas.Bool.Decides.{nat_tests}
-use Rattle.uuid.specs.Text.{is_hyphen_place, is_hex_digit}
-use Rattle.gtid.specs.Encoding.{SidBlock}
-use Rattle.gtid.specs.Text.{IsList, IsInGrammar, BeginsText, IsOutsideFrom}
-use Rattle.gtid.specs.Scan.{step, ends, stands_at, IsPlaced, run, IsPassed}
-use Rattle.gtid.specs.declared.grammar.State.{State}
-use Rattle.gtid.specs.declared.grammar.State.TheVariants.{Start, Item, Source, First, Lo, Second, Hi, After}
-use Rattle.gtid.proofs.Scanned.{run_none, run_append, run_on, run_list, begins_none, tested_second, Ended}
-use Rattle.gtid.proofs.Recognized.{recognized, same_state}
+use Rattle.gtid.proofs.Names.{◌≡◌, ℕ, zero, suc, ◌+◌, ◌-◌, ◌<◌, ◌≤◌, ◌==◌, Bool, true, false, if◌then◌else◌, Some, None, List, [], ◌∷◌, ◌++◌, length, take, get_or, refl, ap, sym, subst, ◌∙◌, arith, append-nil, nat_tests, is_hyphen_place, SidBlock, IsList, IsInGrammar, IsOutsideFrom, ends, stands_at, IsPlaced, IsPassed, State, Start, Item, First, Lo, Second, Hi, After}
+use Rattle.std.proofs.Common.{drop, length-append, true≢false, take-add, take_all}
+use Rattle.uuid.specs.Text.{is_hex_digit}
+use Rattle.gtid.specs.Text.{BeginsText}
+use Rattle.gtid.specs.Scan.{step, run}
+use Rattle.gtid.specs.declared.grammar.State.TheVariants.{Source}
+use Rattle.gtid.proofs.ScanComplete.{run_none, run_append, run_on, run_list, begins_none, tested_second, Ended}
+use Rattle.gtid.proofs.ScanSound.{recognized, same_state}
 
 -- the rest of a UUID from a place on, and an interval
 abbrev filling : ℕ → ℕ → List ℕ

@@ -1,29 +1,17 @@
 -- Groups, and the set that they stand for.
-use Rattle.std.proofs.Common.{◌≡◌, ◌≢◌, ◌<◌, ◌⊎◌, inl, inr, ℕ, zero, suc, Bool, true, false, not, nat_eq, nat_le, nat_lt, ◌&&◌, ◌||◌, ◌↔◌, ◌+◌, ◌-◌, List, [], ◌∷◌, length, map, flat_map, refl, ap, sym, ◌∙◌, arith}
-use Rattle.std.specs.declared.cmp.Ordering.{Ordering}
-use Rattle.std.specs.declared.cmp.Ordering.TheVariants.{Less, Equal, Greater}
-use Rattle.std.specs.Ordering.{nat_cmp, ordering_then, eq_by_cmp}
+use Rattle.gtid.proofs.Names.{◌≡◌, ◌≢◌, ◌<◌, ◌⊎◌, inl, inr, ℕ, zero, suc, Bool, true, false, not, nat_eq, nat_le, nat_lt, ◌&&◌, ◌||◌, ◌+◌, ◌-◌, List, [], ◌∷◌, length, map, flat_map, refl, ap, sym, ◌∙◌, arith, Ordering, Less, Equal, Greater, nat_cmp, ordering_then, eq_by_cmp, slice_cmp, nat_list_cmp_total, list_any, bytes_eq, list_any-append, bytes_eq-Decides, IsTrue, or-false, and_right, false≢true, nat_tests, common_steps, Id, id_cmp, Ids, is_within, has, AreLeast, Ascend, is_listed, Interval, Group}
+use Rattle.std.proofs.Common.{◌↔◌}
 use Rattle.std.specs.Cmp.{IsTotalOrder, then_total, on_total, nat_cmp_total, tied_then, unsigned_tied}
-use Rattle.std.specs.Cmp.Lexicographic.{slice_cmp, nat_list_cmp_total}
 use Rattle.std.specs.FinSet as set
-use Rattle.std.specs.List.{list_any, range_with_len}
+use Rattle.std.specs.List.{range_with_len}
 use Rattle.std.specs.List.Sorted.{IsStrictlySortedBy}
-use Rattle.std.specs.Str.{bytes_eq}
-use Rattle.std.proofs.lemmas.List.Folds.{list_any-append}
 use Rattle.std.proofs.lemmas.Map.Text.{is_eq-slice_cmp}
-use Rattle.std.proofs.lemmas.Slice.Eq.{bytes_eq-Decides}
-use Rattle.std.specs.Bool.{IsTrue}
-use Rattle.std.proofs.Math.Bool.{or-false, and-true}
-use Rattle.std.proofs.lemmas.Bool.{and_right, false_from_ne_true, false≢true}
-use Rattle.std.proofs.lemmas.Bool.Decides.{nat_tests}
-use Rattle.std.proofs.lemmas.Grind.{common_steps}
-use Rattle.gtid.specs.Identifier.{Id, id_cmp, Ids, is_one}
-use Rattle.gtid.specs.Interval.{is_within, has, AreLeast}
+use Rattle.std.proofs.Math.Bool.{and-true}
+use Rattle.std.proofs.lemmas.Bool.{false_from_ne_true}
+use Rattle.gtid.specs.Identifier.{is_one}
 use Rattle.gtid.specs.Combination.{keeps}
 use Rattle.gtid.specs.declared.combination.Combination.TheVariants.{Union, Difference}
-use Rattle.gtid.specs.Group.{Ascend, sources, is_listed, ids_of_interval, ids_of_group, ids_of}
-use Rattle.gtid.specs.declared.interval.Interval.{Interval}
-use Rattle.gtid.specs.declared.group.Group.{Group}
+use Rattle.gtid.specs.Group.{sources, ids_of_interval, ids_of_group, ids_of}
 
 pub id_cmp_total : IsTotalOrder id_cmp
 id_cmp_total = then_total (on_total (λ (a : Id). a.0) nat_list_cmp_total) (on_total (λ (a : Id). a.1) nat_cmp_total)

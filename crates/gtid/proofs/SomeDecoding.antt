@@ -1,31 +1,21 @@
 -- Bytes begin with an encoding or have a fault.
-use Rattle.std.proofs.Common.{◌≡◌, ◌≢◌, ℕ, zero, suc, ◌+◌, ◌-◌, ◌*◌, ◌/◌, ◌%◌, ◌<◌, ◌≤◌, ◌^◌, ◌==◌, ◌||◌, ◌⊎◌, inl, inr, Bool, true, false, not, nat_le, nat_lt, Option, Some, None, List, [], ◌∷◌, ◌++◌, length, map, flat_map, take, drop, slice_index, refl, ap, sym, subst, ◌∙◌, arith, append_assoc}
+use Rattle.gtid.proofs.Names.{◌≡◌, ◌≢◌, ℕ, zero, suc, ◌+◌, ◌-◌, ◌*◌, ◌/◌, ◌%◌, ◌<◌, ◌≤◌, ◌^◌, ◌==◌, ◌||◌, ◌⊎◌, inl, inr, Bool, true, false, not, nat_le, nat_lt, Option, Some, None, List, [], ◌∷◌, ◌++◌, length, map, flat_map, take, slice_index, refl, ap, sym, subst, ◌∙◌, arith, append_assoc, nat_tests, length-append, take-append-drop, last_or, AllByRecursion, nat_cmp, slice_cmp, bytes_eq, little_bytes, little_number, AreLeast, IsLeast, SidBlock, interval_bytes, block_bytes, blocks_bytes, interval_fault, is_above, source_fault, AreIntervals, AreSidBlocks, IsEncoding, Interval, GtidFault}
+use Rattle.std.proofs.Common.{drop}
 use Rattle.std.proofs.Math.Nat.{div-div-eq-div-mul, pow-succ'}
 use Rattle.std.proofs.lemmas.Bool.{or_parts, not-false}
-use Rattle.std.proofs.lemmas.Bool.Decides.{nat_tests}
-use Rattle.std.proofs.lemmas.List.{length-append, take-append-drop}
 use Rattle.std.specs.Int.{byte_at, bytes_low_first}
-use Rattle.std.specs.List.{last_or, AllByRecursion}
-use Rattle.std.specs.Ordering.{nat_cmp}
-use Rattle.std.specs.Cmp.Lexicographic.{slice_cmp}
-use Rattle.std.specs.Str.{bytes_eq}
-use Rattle.byteorder.specs.Endian.{little_bytes, little_number}
 use Rattle.byteorder.specs.Numbers.{little_from-cons, little_from-lt}
-use Rattle.gtid.specs.Interval.{AreLeast}
-use Rattle.gtid.specs.Span.{IsLeast}
 use Rattle.gtid.specs.Spans.{span}
 use Rattle.gtid.specs.Blocks.{pair}
-use Rattle.gtid.specs.Encoding.{SidBlock, grouped, interval_bytes, block_bytes, blocks_bytes, interval_fault, is_above, source_fault, AreIntervals, AreSidBlocks, IsEncoding, BeginsWithEncoding, HasDecodeFault}
+use Rattle.gtid.specs.Encoding.{grouped, BeginsWithEncoding, HasDecodeFault}
 use Rattle.gtid.specs.Encoding.IsDecodeFault.{no_count}
 use Rattle.gtid.specs.Decoding.{IsBlockFault}
-use Rattle.gtid.specs.declared.interval.Interval.{Interval}
-use Rattle.gtid.specs.declared.fault.GtidFault.{GtidFault}
 use Rattle.gtid.specs.declared.fault.GtidFault.TheVariants as fault
 use Rattle.gtid.proofs.LeastList.{IsUnder, least_group, under_first}
-use Rattle.gtid.proofs.Grouped.{IsOther, grouped_some, other_below}
-use Rattle.gtid.proofs.Decoded.{less_from, span_of, spans_of_block}
+use Rattle.gtid.proofs.SpansBySource.{IsOther, grouped_some, other_below}
+use Rattle.gtid.proofs.GroupSets.{less_from, span_of, spans_of_block}
 use Rattle.gtid.proofs.OneEncoding.{interval_table, source_table, source_of, pair_end, ends_at}
-use Rattle.gtid.proofs.Read.{next_faults}
+use Rattle.gtid.proofs.BytesSoFar.{next_faults}
 use Rattle.gtid.proofs.SomeReading.{set_of, covers_set}
 
 -- ---- A number at the front.

@@ -1,21 +1,12 @@
 -- Each set has a list of least intervals.
-use Rattle.std.proofs.Common.{◌≡◌, ◌+◌, ◌<◌, ◌⊎◌, inl, inr, Bool, true, false, ◌&&◌, ◌||◌, nat_le, nat_lt, nat_eq, if◌then◌else◌, ℕ, List, [], ◌∷◌, map, refl, ap, sym, ◌∙◌, arith, T, Option, Some}
-use Rattle.std.specs.declared.cmp.Ordering.{Ordering}
-use Rattle.std.specs.declared.cmp.Ordering.TheVariants.{Less, Equal, Greater}
-use Rattle.std.specs.Ordering.{nat_cmp, is_lt, ordering_then, eq_by_cmp}
+use Rattle.gtid.proofs.Names.{◌≡◌, ◌+◌, ◌<◌, ◌⊎◌, inl, inr, Bool, true, false, ◌&&◌, ◌||◌, nat_le, nat_lt, nat_eq, if◌then◌else◌, ℕ, List, [], ◌∷◌, map, refl, ap, sym, ◌∙◌, arith, Option, Some, Ordering, Less, Equal, Greater, nat_cmp, is_lt, ordering_then, eq_by_cmp, slice_cmp, list_any, bytes_eq, and_parts, nat_tests, bytes_eq-Decides, Id, id_cmp, Ids, IsBefore, IsLeast, Span}
+use Rattle.std.proofs.Common.{T}
 use Rattle.std.specs.Cmp.{ranked}
-use Rattle.std.specs.Cmp.Lexicographic.{slice_cmp}
 use Rattle.std.specs.FinSet as set
 use Rattle.std.specs.FinMap.Entries.{put, find, is_sorted, is_sorted-put, find-put, is_some-find}
 use Rattle.std.specs.Option.{is_some}
-use Rattle.std.specs.List.{list_any}
-use Rattle.std.specs.Str.{bytes_eq}
-use Rattle.std.proofs.lemmas.Bool.{and_parts}
-use Rattle.std.proofs.lemmas.Bool.Decides.{nat_tests}
-use Rattle.std.proofs.lemmas.Slice.Eq.{bytes_eq-Decides}
-use Rattle.gtid.specs.Identifier.{Id, id_cmp, Ids, is_one}
-use Rattle.gtid.specs.Span.{is_in, IsBefore, IsLeast, HasLeastList}
-use Rattle.gtid.specs.declared.span.Span.{Span}
+use Rattle.gtid.specs.Identifier.{is_one}
+use Rattle.gtid.specs.Span.{is_in, HasLeastList}
 use Rattle.gtid.proofs.Disjunctions.{distribute}
 use Rattle.gtid.proofs.LeastList.{Leads, least_cons}
 use Rattle.gtid.proofs.OneLeastList.{Below, IsEarly, some_first, tail_least}

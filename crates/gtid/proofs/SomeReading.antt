@@ -1,25 +1,16 @@
 -- Each text is read or has a fault.
-use Rattle.std.proofs.Common.{◌≡◌, ℕ, zero, suc, ◌+◌, ◌<◌, ◌==◌, ◌⊎◌, ◌||◌, inl, inr, Bool, true, false, if◌then◌else◌, Option, Some, None, List, [], ◌∷◌, length, take, drop, get_or, flat_map, refl, sym, ◌∙◌, arith}
-use Rattle.std.proofs.lemmas.Bool.Decides.{nat_tests}
-use Rattle.std.proofs.lemmas.List.{take-append-drop, length-drop}
-use Rattle.std.proofs.lemmas.List.Folds.{list_any-append}
+use Rattle.gtid.proofs.Names.{◌≡◌, ℕ, zero, suc, ◌+◌, ◌<◌, ◌==◌, ◌⊎◌, ◌||◌, inl, inr, Bool, true, false, if◌then◌else◌, Option, Some, None, List, [], ◌∷◌, length, take, get_or, flat_map, refl, sym, ◌∙◌, arith, nat_tests, take-append-drop, list_any-append, list_any, eq_by_cmp, Id, id_cmp, Ids, IsInGrammar, list_fault, written_spans, IsOutsideFrom, outside, written, ends, stands_at, is_digit, IsPlaced, IsPassed, GtidFault, Text, State, Start, Item, First, Lo, Second, Hi, After, Span}
+use Rattle.std.proofs.Common.{drop}
+use Rattle.std.proofs.lemmas.List.{length-drop}
 use Rattle.std.specs.FinSet as set
-use Rattle.std.specs.List.{list_any}
-use Rattle.std.specs.Ordering.{eq_by_cmp}
 use Rattle.uuid.specs.Text.{is_hex_digit}
-use Rattle.gtid.specs.Identifier.{Id, id_cmp, Ids}
 use Rattle.gtid.specs.Span.{is_in, Covers}
 use Rattle.gtid.specs.Group.{ids_of_interval}
-use Rattle.gtid.specs.Text.{IsInGrammar, list_fault, written_spans, IsOutsideFrom, HasReading, HasParseFault}
-use Rattle.gtid.specs.Text.IsParseFault.{outside, written}
-use Rattle.gtid.specs.Scan.{step, begin, ends, end_number, stands_at, is_digit, is_blank, IsPlaced, run, IsPassed}
-use Rattle.gtid.specs.declared.fault.GtidFault.{GtidFault}
-use Rattle.gtid.specs.declared.fault.GtidFault.TheVariants.{Text}
-use Rattle.gtid.specs.declared.grammar.State.{State}
-use Rattle.gtid.specs.declared.grammar.State.TheVariants.{Start, Item, Source, First, Lo, Second, Hi, After}
-use Rattle.gtid.specs.declared.span.Span.{Span}
-use Rattle.gtid.proofs.Scanned.{run_on}
-use Rattle.gtid.proofs.Recognized.{choose, nothing}
+use Rattle.gtid.specs.Text.{HasReading, HasParseFault}
+use Rattle.gtid.specs.Scan.{step, begin, end_number, is_blank, run}
+use Rattle.gtid.specs.declared.grammar.State.TheVariants.{Source}
+use Rattle.gtid.proofs.ScanComplete.{run_on}
+use Rattle.gtid.proofs.ScanSound.{choose, nothing}
 use Rattle.gtid.proofs.Outside.{outside_at, outside_end, in_grammar_end}
 use Rattle.gtid.proofs.Sets.{id_cmp_total, listed_in_interval}
 

@@ -1,14 +1,9 @@
 -- The text of a source, in either case, by its places.
-use Rattle.std.proofs.Common.{◌≡◌, ℕ, zero, suc, ◌+◌, ◌*◌, ◌/◌, ◌%◌, ◌<◌, ◌==◌, Bool, true, false, if◌then◌else◌, List, [], ◌∷◌, length, map, get_or, slice_index, refl, ap, sym, subst, ◌∙◌, arith, add-zero}
-use Rattle.std.specs.Char.{to_ascii_lowercase}
-use Rattle.std.specs.Str.{str_to_ascii_lowercase}
-use Rattle.std.proofs.lemmas.Bool.Decides.{nat_tests}
-use Rattle.std.proofs.lemmas.List.{get_or-map, length-map}
+use Rattle.gtid.proofs.Names.{◌≡◌, ℕ, zero, suc, ◌+◌, ◌*◌, ◌/◌, ◌%◌, ◌<◌, ◌==◌, Bool, true, false, if◌then◌else◌, List, [], ◌∷◌, length, map, get_or, slice_index, refl, ap, sym, subst, ◌∙◌, arith, to_ascii_lowercase, str_to_ascii_lowercase, nat_tests, get_or-map, length-map, hyphenated_text, lower, hex_digit, nibble, digit_place, is_hyphen_place, by_index_at, by_index_length, nibble_small, IsSource, stands_at}
+use Rattle.std.proofs.Common.{add-zero}
 use Rattle.std.proofs.lemmas.List.Elements.{recursion_from_All}
-use Rattle.uuid.specs.Text.{by_index, hyphenated_text, lower, hex_digit, nibble, digit_place, hyphen_place, digits_of, is_hyphen_place, is_hex_digit, value_of, byte_of_digits}
-use Rattle.uuid.proofs.TextLemmas.{by_index_at, by_index_length, by_index_same, nibble_small}
-use Rattle.gtid.specs.Identifier.{IsSource}
-use Rattle.gtid.specs.Scan.{stands_at}
+use Rattle.uuid.specs.Text.{by_index, hyphen_place, digits_of, is_hex_digit, value_of, byte_of_digits}
+use Rattle.uuid.proofs.TextLemmas.{by_index_same}
 
 -- The bytes may be at the places of a UUID from this one on.
 abbrev pub StandFrom : ℕ → List ℕ → Type 0

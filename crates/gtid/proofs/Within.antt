@@ -1,20 +1,18 @@
 -- Numbers among intervals that ascend.
-use Rattle.std.proofs.Common.{◌≡◌, ℕ, Bool, true, false, ◌+◌, ◌≤◌, ◌<◌, ◌^◌, ◌||◌, List, [], ◌∷◌, ◌++◌, length, get_or, take, drop, set, refl, ap, sym, subst, ◌∙◌, arith, min, add-one, Option, Some, None, MatchOption, Bor, nat_eq, ◌-◌, leb, ltb, zero, suc, inl, inr}
-use Rattle.std.proofs.Math.Bool.{or-false}
+use Rattle.gtid.proofs.Names.{◌≡◌, ℕ, Bool, true, false, ◌+◌, ◌≤◌, ◌<◌, ◌^◌, ◌||◌, List, [], ◌∷◌, ◌++◌, length, get_or, take, set, refl, ap, sym, subst, ◌∙◌, arith, add-one, Option, Some, None, nat_eq, ◌-◌, ltb, zero, suc, inl, inr, or-false, nat_tests, leb-false, drop-cons, take-append-drop, take_all, get_or_default, AllWithin, is_within, has, AreLeast, Interval}
+use Rattle.std.proofs.Common.{drop, min, MatchOption, Bor, leb}
 use Rattle.std.proofs.Math.ListN.{drop_of_length-le}
-use Rattle.std.proofs.lemmas.Bool.Decides.{nat_tests, leb_tells}
-use Rattle.std.proofs.lemmas.Bool.{leb-false, ltb-true, ltb-false}
+use Rattle.std.proofs.lemmas.Bool.Decides.{leb_tells}
+use Rattle.std.proofs.lemmas.Bool.{ltb-true, ltb-false}
 use Rattle.std.proofs.lemmas.List.Folds.{list_any_at}
 use Rattle.std.proofs.Math.Nat.{eq-or-lt_of_le}
-use Rattle.std.proofs.Math.Seq.{drop-cons}
-use Rattle.std.proofs.lemmas.List.{take-append-drop, take_all, set_split, get_or_default}
+use Rattle.std.proofs.lemmas.List.{set_split}
 use Rattle.std.specs.List.Sorted.{IsNonDecreasingBy, IsPartitionPoint}
 use Rattle.std.specs.Option.{option_copied}
-use Rattle.std.specs.List.{AllWithin, HoldsAt, insert, remove}
-use Rattle.gtid.specs.Interval.{is_within, has, AreLeast, GoesAt, IsNear, HasNear}
-use Rattle.gtid.specs.declared.interval.Interval.{Interval}
+use Rattle.std.specs.List.{HoldsAt, insert, remove}
+use Rattle.gtid.specs.Interval.{GoesAt, IsNear, HasNear}
 use Rattle.gtid.proofs.Disjunctions.{or_swap}
-use Rattle.gtid.proofs.Combined.{has-append, last_end}
+use Rattle.gtid.proofs.IntervalUnion.{has-append, last_end}
 
 least-after : (end : ℕ) (xs ys : List Interval) → AreLeast end (xs ++ ys) → AreLeast (last_end end xs) ys
 least-after end [] ys least = least

@@ -6,12 +6,13 @@ pub mod clear;
 pub mod copy;
 pub mod export;
 pub mod follow;
-pub mod jobs;
 pub mod listing;
 pub mod load;
 pub mod minus;
 pub mod replay;
 pub mod select;
+pub mod sets;
+pub mod show;
 pub mod skip;
 pub mod verify;
 
@@ -19,12 +20,13 @@ use crate::commands::clear::clear;
 use crate::commands::copy::copy;
 use crate::commands::export::export;
 use crate::commands::follow::follow;
-use crate::commands::jobs::{job_of, run_job};
 use crate::commands::listing::list;
 use crate::commands::load::load;
 use crate::commands::minus::minus;
 use crate::commands::replay::replay;
 use crate::commands::select::select;
+use crate::commands::sets::{adopt, gtids, missing};
+use crate::commands::show::{show, tables};
 use crate::commands::skip::skip;
 use crate::commands::verify::verify;
 use crate::report::failure::{DONE, Failure, MEMORY};
@@ -32,8 +34,8 @@ use clap::{ArgMatches, Command};
 use command_line::{
     escaped, grammar, input_again, no_command, parse_tables, word, write_completions, write_help,
 };
-use files::INPUT;
-use formats::note_patterns;
+use files::{INPUT, has_bytes};
+use formats::{note_made, note_patterns};
 use payloads::Lines;
 use std::alloc::{AllocError, Global};
 use std::convert::AsStr;
@@ -154,6 +156,8 @@ fn run_named<'a, W: Write, E: Write>(
         "select" => select(rt, given, out)?,
         "load" => load(rt, given, out, err)?,
         "clear" => clear(rt, given, out, err)?,
+        "show" | "tables" | "gtids" | "missing" => read(rt, name, given, out, err)?,
+        "adopt" => adopt(rt, given, out)?,
         "skip" => skip(rt, given, out)?,
         "copy" => copy(rt, given)?,
         "export" => export(rt, given, err)?,
@@ -167,12 +171,42 @@ fn run_named<'a, W: Write, E: Write>(
             write_query(&only, out)?;
             DONE
         }
-        _ => match job_of(rt, name, given)? {
-            Some(job) => run_job(rt, word(given, "db"), job, out, err)?,
-            None => return Ok(None),
-        },
+        _ => return Ok(None),
     };
     Ok(Some(status))
+}
+
+/// Runs the command of this name, which only reads a database, and reports if it has made that.
+fn read<'a, W: Write, E: Write>(
+    rt: &'a HostRuntime,
+    name: &str,
+    given: &ArgMatches<'a>,
+    out: &mut W,
+    err: &mut E,
+) -> Result<u8, Failure<'a>>
+    ensures { IfOk result (λ status. status ≤ MEMORY) }
+{
+    let db = word(given, "db");
+    let is_missing = !has_bytes(rt, db);
+    let done = match name {
+        "tables" => tables(rt, given, out),
+        "gtids" => gtids(rt, given, out),
+        "missing" => missing(rt, given, out),
+        _ => show(rt, given, out, err),
+    };
+    if is_missing {
+        note_if_made(rt, db, out, err);
+    }
+    done?;
+    Ok(DONE)
+}
+
+/// Reports if a command that only reads a database, which was missing, has made it.
+pub fn note_if_made<W: Write, E: Write>(rt: &HostRuntime, db: &str, out: &mut W, err: &mut E) {
+    if has_bytes(rt, db) {
+        let _ = out.flush();
+        note_made(db, err);
+    }
 }
 
 /// Flushes the output of a command that ends with this status. If that fails, a command with status 0 fails, and any

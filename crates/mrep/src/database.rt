@@ -1,8 +1,7 @@
-//! What a command does with the store in a database file, and how that is opened and closed.
+//! How a database file is opened, read and closed, what prints its rows or adds them to tables, and the files beside it.
 
 pub mod copied_rows;
 pub mod description;
 pub mod exporter;
-pub mod job;
 pub mod open;
 pub mod printer;

@@ -1,16 +1,9 @@
 -- A store to whose executed set another set was added.
-use Rattle.std.proofs.Common.{◌≡◌, inl, inr, Option, Result, Ok, Err, IsTrue, refl, sym, subst}
+use Rattle.replica.proofs.Names.{◌≡◌, inl, inr, Option, Result, Ok, Err, IsTrue, refl, sym, subst, Ghosts, Trees, Held, Ids, Content, adopted, StoreFault, Store, AreOf}
 use Rattle.std.specs.FinSet as set
-use Rattle.sqlite_trees.specs.declared.store.Store.{Ghosts}
-use Rattle.sqlite_trees.specs.Tree.{Trees}
-use Rattle.sqlite.specs.Held.{Held, state}
-use Rattle.gtid.specs.Identifier.{Ids}
-use Rattle.store.specs.State.{Content}
-use Rattle.store.specs.Changes.{adopted}
-use Rattle.store.specs.declared.fault.StoreFault.{StoreFault}
+use Rattle.sqlite.specs.Held.{state}
 use Rattle.store.specs.declared.fault.StoreFault.TheVariants as fault
-use Rattle.store.specs.declared.store.Store.{Store}
-use Rattle.store.specs.Store.{Holds, Adopts, LeavesAdopted, AreOf}
+use Rattle.store.specs.Store.{Holds, Adopts, LeavesAdopted}
 use Rattle.replica.specs.AdoptFile.{HasAdopted}
 use Rattle.replica.proofs.ClearStore.{stays_whole}
 

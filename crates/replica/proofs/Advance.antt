@@ -1,27 +1,13 @@
 -- One step of a session: some bytes, and what they complete.
-use Rattle.std.proofs.Common.{◌≡◌, ℕ, Bool, true, false, List, [], ◌++◌, refl, sym, ap, ◌∙◌, inl, inr, Option, Some, None, is_some, unwrap_or, subst, IfSome, IfNone}
-use Rattle.std.proofs.lemmas.Bool.{true≢false}
-use Rattle.wire.specs.declared.fault.WireFault.{WireFault}
+use Rattle.replica.proofs.Names.{◌≡◌, ℕ, Bool, true, false, List, [], ◌++◌, refl, sym, ap, ◌∙◌, inl, inr, Option, Some, None, is_some, unwrap_or, subst, true≢false, WireFault, ReaderState, IsWholePayload, IsUnfinished, Payload, Names, Gatherer, Ghosts, Schema, Content, Store, EndOfInput, Memory, Wire, Ended, Phase, Session, Settings, IsWrong, IsLeftOfOne, GoesOn, HasEnded, HasPayload, end_of, StandsOver, LeavesOnly}
+use Rattle.std.proofs.Common.{IfSome, IfNone}
 use Rattle.wire.specs.declared.fault.WireFault.TheVariants as wire
-use Rattle.wire.specs.Payload.{ReaderState, IsWholePayload, IsUnfinished, IsOutOfSequence, IsTooLarge, Payload}
-use Rattle.binlog.specs.Filter.{Names}
-use Rattle.gather.specs.declared.gatherer.Gatherer.{Gatherer}
-use Rattle.sqlite_trees.specs.declared.store.Store.{Ghosts}
-use Rattle.sqlite_schema.specs.declared.schema.Schema.{Schema}
-use Rattle.store.specs.State.{Content}
-use Rattle.store.specs.declared.store.Store.{Store}
-use Rattle.replica.specs.declared.end.Reason.TheVariants.{EndOfInput, Memory, Wire}
-use Rattle.replica.specs.declared.end.Ended.{Ended}
-use Rattle.replica.specs.declared.phase.Phase.{Phase}
-use Rattle.replica.specs.declared.session.Session.{Session}
-use Rattle.replica.specs.Settings.{Settings}
-use Rattle.replica.specs.End.{IsWrong}
-use Rattle.replica.specs.Crash.{IsLeftOfOne}
+use Rattle.wire.specs.Payload.{IsOutOfSequence, IsTooLarge}
 use Rattle.replica.specs.PayloadStep.{reason_of}
-use Rattle.replica.specs.Standing.{GoesOn, HasEnded, HasPayload, Stands, end_of}
-use Rattle.replica.specs.Over.{StandsOver, MeetsOver, LeavesOnly}
+use Rattle.replica.specs.Standing.{Stands}
+use Rattle.replica.specs.Over.{MeetsOver}
 use Rattle.replica.proofs.Extend.{extended, left-append}
-use Rattle.replica.proofs.Stood.{stands-append, going}
+use Rattle.replica.proofs.Positions.{stands-append, going}
 
 module _ (settings : Settings) (a : ReaderState) (gatherer : Gatherer) (phase : Phase) (at applied : ℕ) (names : Names) (was is : Bool) (old now : Content) (b all more : List ℕ)
     (g : GoesOn settings a gatherer phase at applied names was is old now b all) where

@@ -1,21 +1,10 @@
 -- One transaction that a store takes.
-use Rattle.std.proofs.Common.{◌≡◌, Bool, Result, Ok, Err, IfErr, inl, inr, refl, sym, subst}
-use Rattle.sqlite_trees.specs.declared.store.Store.{Ghosts}
-use Rattle.sqlite_trees.specs.Tree.{Trees}
+use Rattle.replica.proofs.Names.{◌≡◌, Bool, Result, Ok, Err, IfErr, inl, inr, refl, sym, subst, Ghosts, Trees, DeliveryValue, Content, Applied, StoreFault, Store, Applies, Reason, EndOfInput, SourceEof, SourceError, Wire, Greet, Event, Gather, Refused, Database, Memory, ReadFailed, WriteFailed, Halted, Until, IsOwn, outcome_of, TakesAlone}
 use Rattle.sqlite.specs.Held.{state}
-use Rattle.gather.specs.Transaction.{DeliveryValue}
-use Rattle.store.specs.State.{Content}
-use Rattle.store.specs.declared.fault.Applied.{Applied}
 use Rattle.store.specs.declared.fault.Applied.TheVariants as applied
-use Rattle.store.specs.declared.fault.StoreFault.{StoreFault}
 use Rattle.store.specs.declared.fault.StoreFault.TheVariants as fault
-use Rattle.store.specs.declared.store.Store.{Store}
-use Rattle.store.specs.Store.{Holds, Applies, Leaves}
-use Rattle.replica.specs.declared.end.Reason.{Reason}
-use Rattle.replica.specs.declared.end.Reason.TheVariants.{EndOfInput, SourceEof, SourceError, Wire, Greet, Event, Gather, Refused, Database, Memory, ReadFailed, WriteFailed, Halted, Until}
-use Rattle.replica.specs.Conn.{IsOwn}
-use Rattle.replica.specs.PayloadStep.{outcome_of}
-use Rattle.replica.specs.Alone.{IsOwnOrHalted, TakesAlone}
+use Rattle.store.specs.Store.{Holds, Leaves}
+use Rattle.replica.specs.Alone.{IsOwnOrHalted}
 
 own_or_halted : (reason : Reason) (stopped : Bool) → IsOwn reason → IsOwnOrHalted reason stopped
 own_or_halted EndOfInput stopped h = h

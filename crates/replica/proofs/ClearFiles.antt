@@ -1,28 +1,16 @@
 -- A database file of which the rows of one table were taken out.
-use Rattle.std.proofs.Common.{◌≡◌, ℕ, List, [], Result, Ok, Err, IfOk, IfErr, subst, ◌∙◌, arith}
+use Rattle.replica.proofs.Names.{◌≡◌, ℕ, List, [], Result, Ok, Err, IfOk, IfErr, subst, ◌∙◌, arith, Files, AreClean, IsClean, FileStore, Error, HasCleanDisk, over_files, IsClosed, FailsToClose, IsCopied, Names, Content, Store, database, Account, IsLeftOfNoted}
 use Rattle.sqlite_disk.specs.declared.Disk.{Ghosts}
-use Rattle.sqlite_disk.specs.declared.Files.{Files}
-use Rattle.sqlite_wal.specs.Reads.{AreClean}
-use Rattle.sqlite_trees.specs.View.{IsClean}
-use Rattle.sqlite_store.specs.declared.store.FileStore.{FileStore}
 use Rattle.sqlite_store.specs.FileStore.{view}
-use Rattle.sqlite.specs.declared.error.Error.{Error}
-use Rattle.sqlite.specs.State.{HasCleanDisk}
-use Rattle.sqlite.specs.Files.{over_files, IsClosed, FailsToClose}
-use Rattle.sqlite.specs.Closing.{IsCopied}
-use Rattle.binlog.specs.Filter.{Names}
-use Rattle.store.specs.State.{Content}
-use Rattle.store.specs.declared.store.Store.{Store}
-use Rattle.store.specs.Store.{Holds, database}
+use Rattle.store.specs.Store.{Holds}
 use Rattle.replica.specs.declared.clearing.ClearEnd.{ClearEnd}
-use Rattle.replica.specs.Noted.{Account, IsLeftOfNoted}
 use Rattle.replica.specs.NotedFile.{IsNotedOfFiles}
 use Rattle.replica.specs.Clear.{ClearsTo, IsLeftOfClear}
 use Rattle.replica.specs.Clearing.{HasCleared, IsClearedSinceOpening}
 use Rattle.replica.specs.ClearFile.{ClearsFile}
-use Rattle.replica.proofs.Closed.{closed_with, may_hold}
+use Rattle.replica.proofs.CaptureFiles.{closed_with, may_hold}
 use Rattle.replica.proofs.ClearStore.{as_held}
-use Rattle.replica.proofs.StayedFiles.{ends_with}
+use Rattle.replica.proofs.ContentStays.{ends_with}
 
 module _ {D : Type 0} (g : Ghosts D) (names : Names) (old : Content) (opened after : Store (FileStore D g) over_files) where
   pub cleared_into : (schema table source : List ℕ) (number : ℕ) (end : ClearEnd) (closed : Result (Files D) (Error × FileStore D g))

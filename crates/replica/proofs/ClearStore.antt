@@ -1,46 +1,32 @@
 -- A store while the rows of one table are taken out of it.
-use Rattle.std.proofs.Common.{◌≡◌, inl, inr, ℕ, arith, Bool, true, false, List, [], ◌∷◌, ◌++◌, length, Option, Some, None, Result, Ok, Err, IfErr, OnOk, IsTrue, refl, sym, ap, subst, subst₂, ◌∙◌, append_assoc, append-nil, replicate}
-use Rattle.std.specs.Prelude.{if◌then◌else◌, flat_map, MatchOption}
+use Rattle.replica.proofs.Names.{◌≡◌, inl, inr, ℕ, arith, Bool, true, false, List, [], ◌∷◌, ◌++◌, length, Option, Some, None, Result, Ok, Err, IfErr, IsTrue, refl, sym, ap, subst, subst₂, ◌∙◌, append_assoc, append-nil, replicate, if◌then◌else◌, cases_Bool, false≢true, Ghosts, Trees, Held, Ids, CellValue, Names, admits, ChangeValue, Content, HasOutcome, done, AreDone, IsRefusedAt, Entry, StoreFault, ListError, Store, HasFailed, HoldsAs, AreOf, NoSuchRow, CountFull, Reason, EndOfInput, SourceEof, SourceError, Wire, Greet, Event, Gather, Refused, Database, Memory, ReadFailed, WriteFailed, Halted, Until, Account, HasNotices, StillWaits, WereMissed, has_failure, IsLeftOfNoted, IsNotedSinceOpening, IsLedOver, IsLedSinceOpening, TakesAlone, HasStayed}
+use Rattle.std.proofs.Common.{OnOk}
+use Rattle.std.specs.Prelude.{flat_map, MatchOption}
 use Rattle.std.specs.FinSet as set
 use Rattle.std.specs.List.{FoldsTo}
-use Rattle.std.proofs.lemmas.Bool.{cases_Bool, false≢true}
-use Rattle.sqlite_trees.specs.declared.store.Store.{Ghosts}
-use Rattle.sqlite_trees.specs.Tree.{Trees}
-use Rattle.sqlite.specs.Held.{Held, state}
-use Rattle.gtid.specs.Identifier.{Ids}
-use Rattle.binlog.specs.Cell.{CellValue}
-use Rattle.binlog.specs.Filter.{Names, admits}
+use Rattle.sqlite.specs.Held.{state}
 use Rattle.binlog.specs.declared.body.table_map.TableDef.{TableDef}
 use Rattle.gather.specs.Image.{IsImage}
-use Rattle.gather.specs.Transaction.{ChangeValue, delete}
+use Rattle.gather.specs.Transaction.{delete}
 use Rattle.gather.proofs.WholeImages.{one_list}
-use Rattle.store.specs.State.{Content}
-use Rattle.store.specs.Changes.{HasOutcome, done, AreDone, IsRefusedAt}
 use Rattle.store.specs.declared.row_change.Refusal.TheVariants as why
 use Rattle.store.specs.Faults.{IsFailure}
-use Rattle.store.specs.Listing.{Entry, Accepts, Lists}
-use Rattle.store.specs.declared.fault.StoreFault.{StoreFault}
+use Rattle.store.specs.Listing.{Accepts, Lists}
 use Rattle.store.specs.declared.fault.StoreFault.TheVariants as fault
-use Rattle.store.specs.declared.listing.ListError.{ListError}
 use Rattle.store.specs.declared.listing.ListError.TheVariants.{Store as StoreError, Visitor as VisitorError}
-use Rattle.store.specs.declared.store.Store.{Store}
 use Rattle.store.specs.Apply.{IsAtRest}
-use Rattle.store.specs.Store.{Holds, HasFailed, HoldsAs, AreOf}
+use Rattle.store.specs.Store.{Holds}
 use Rattle.replica.specs.declared.connections.NoMemory.{NoMemory}
-use Rattle.replica.specs.declared.end.Refusal.TheVariants.{NoSuchRow, CountFull}
-use Rattle.replica.specs.declared.end.Reason.{Reason}
-use Rattle.replica.specs.declared.end.Reason.TheVariants.{EndOfInput, SourceEof, SourceError, Wire, Greet, Event, Gather, Refused, Database, Memory, ReadFailed, WriteFailed, Halted, Until}
 use Rattle.replica.specs.declared.clearing.ClearEnd.{ClearEnd}
 use Rattle.replica.specs.declared.clearing.ClearEnd.TheVariants.{Repeat, NotFollowed, Failed}
 use Rattle.replica.specs.declared.clearing.TableRows.{TableRows}
-use Rattle.replica.specs.Noted.{Account, HasNotices, StillWaits, WereMissed, opened, has_failure, IsLeftOfNoted, IsNotedSinceOpening, IsLedOver, IsLedSinceOpening}
-use Rattle.replica.specs.Alone.{TakesAlone, IsOwnOrHalted}
+use Rattle.replica.specs.Noted.{opened}
+use Rattle.replica.specs.Alone.{IsOwnOrHalted}
 use Rattle.replica.specs.Clear.{IsCleared, is_in_table, IsToBeCleared, MayEndClear}
-use Rattle.replica.specs.Over.{HasStayed}
 use Rattle.replica.specs.Clearing.{deletes_of, AreDeletesOf, AppendsDeletes, TakesRow, gathered_of, end_by, ListsDeletes, HasCleared, IsClearedSinceOpening}
-use Rattle.replica.proofs.Cleared.{others_stay, all_gone, none_refused, as_many}
-use Rattle.replica.proofs.Noted.{weaker_leaves, since_through}
-use Rattle.replica.proofs.Taking.{whole_leaves}
+use Rattle.replica.proofs.RowDeletes.{others_stay, all_gone, none_refused, as_many}
+use Rattle.replica.proofs.Notices.{weaker_leaves, since_through}
+use Rattle.replica.proofs.InOrder.{whole_leaves}
 
 -- ---- Rows that are listed.
 

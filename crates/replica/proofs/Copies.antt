@@ -1,23 +1,17 @@
 -- Sets with GTIDs of copies alone, and the tables of a copy.
-use Rattle.std.proofs.Common.{◌≡◌, ◌⊎◌, inl, inr, ℕ, Vec, zero, suc, ◌+◌, ◌<◌, ◌==◌, Bool, true, false, List, [], ◌∷◌, ◌++◌, ◌≤◌, Result, Ok, Err, length, take, slice_index_or, arith, refl, ap, sym, subst, ◌∙◌}
-use Rattle.std.specs.List.{list_all, list_any, AllByRecursion, FoldsTo}
+use Rattle.replica.proofs.Names.{◌≡◌, ◌⊎◌, inl, inr, ℕ, Vec, zero, suc, ◌+◌, ◌<◌, Bool, true, false, List, [], ◌∷◌, ◌++◌, ◌≤◌, Result, Ok, Err, length, take, arith, refl, ap, sym, subst, ◌∙◌, AllByRecursion, true≢false, false≢true, or_cases, or_left, or_right, bytes_eq-Decides, Id, Ids, Name, Names, admits, name_list, Content, row_of, most, Entry, ListError, CellValue}
+use Rattle.std.proofs.Common.{◌==◌, slice_index_or}
+use Rattle.std.specs.List.{list_all, list_any, FoldsTo}
 use Rattle.std.specs.FinSet as set
-use Rattle.std.proofs.lemmas.Bool.{true≢false, false≢true, and_parts, and_cases, and_from, or_cases, or_left, or_right, le-leb, lt-ltb, ne_eqb}
-use Rattle.std.proofs.lemmas.Slice.Eq.{bytes_eq-Decides}
+use Rattle.std.proofs.lemmas.Bool.{and_parts, and_cases, and_from, le-leb, lt-ltb, ne_eqb}
 use Rattle.std.proofs.lemmas.List.{length-map, append-nil}
-use Rattle.gtid.specs.Identifier.{Id, Ids}
 use Rattle.gtid.specs.declared.span.Span.{Span}
 use Rattle.gtid.specs.Span.{is_in, IsLeast, IsLeastList}
 use Rattle.gtid.proofs.OneLeastList.{some_first, tail_least}
-use Rattle.binlog.specs.Filter.{Name, Names, name_cmp, is_named_in, admits}
-use Rattle.binlog.specs.FilterView.{name_list}
-use Rattle.binlog.proofs.Admitted.{itself, listed, follow_by}
-use Rattle.store.specs.State.{Content, row_of}
-use Rattle.store.specs.Changes.{most}
-use Rattle.store.specs.Listing.{Entry, Accepts, HasAccepted, Hands}
-use Rattle.store.specs.declared.listing.ListError.{ListError}
+use Rattle.binlog.specs.Filter.{name_cmp, is_named_in}
+use Rattle.binlog.proofs.TableSets.{itself, listed, follow_by}
+use Rattle.store.specs.Listing.{Accepts, HasAccepted, Hands}
 use Rattle.store.specs.declared.listing.ListError.TheVariants.{Visitor as VisitorError}
-use Rattle.binlog.specs.Cell.{CellValue}
 use Rattle.replica.specs.declared.loading.NoRows.{NoRows}
 use Rattle.replica.specs.declared.loading.Found.{Found}
 use Rattle.replica.specs.declared.loading.Found.TheVariants.{Row}

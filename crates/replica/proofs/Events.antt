@@ -1,30 +1,15 @@
 -- A payload of the dump.
-use Rattle.std.proofs.Common.{◌≡◌, ◌⊎◌, ◌≤◌, ◌-◌, ℕ, Bool, true, false, List, [], ◌∷◌, take, drop, length, Result, Ok, Err, get_or, inl, inr, refl, sym, ap, subst, ◌∙◌}
-use Rattle.sqlite_trees.specs.declared.store.Store.{Ghosts}
-use Rattle.sqlite_trees.specs.Tree.{Trees}
+use Rattle.replica.proofs.Names.{◌≡◌, ◌⊎◌, ◌≤◌, ◌-◌, ℕ, Bool, true, false, List, [], ◌∷◌, take, length, Result, Ok, Err, get_or, inl, inr, refl, sym, ap, subst, ◌∙◌, Ghosts, Trees, true≢false, false≢true, cases_Bool, Names, EventValue, IsEvent, DeliveryValue, Gatherer, Content, is_executed, Applied, StoreFault, Store, HasFailed, HoldsAs, Applies, Reason, EndOfInput, SourceEof, SourceError, Wire, Greet, Event, Gather, Refused, Database, Memory, ReadFailed, WriteFailed, Halted, Until, Carries, Payload, EndsDump, GathersMore, outcome_of}
+use Rattle.std.proofs.Common.{drop}
 use Rattle.sqlite.specs.Held.{state}
 use Rattle.wire.proofs.Cuts.{begun_by}
-use Rattle.std.proofs.lemmas.Bool.{true≢false, false≢true, cases_Bool}
-use Rattle.binlog.specs.Filter.{Names}
-use Rattle.binlog.specs.Event.{EventValue, IsEvent}
-use Rattle.gather.specs.Transaction.{DeliveryValue}
 use Rattle.gather.specs.Fault.{IsFault}
-use Rattle.gather.specs.declared.gatherer.Gatherer.{Gatherer}
 use Rattle.gather.specs.declared.fault.GatherFault.{GatherFault}
 use Rattle.gather.specs.declared.fault.GatherFault.TheVariants as gather
-use Rattle.store.specs.State.{Content}
-use Rattle.store.specs.Changes.{is_executed}
-use Rattle.store.specs.declared.fault.Applied.{Applied}
 use Rattle.store.specs.declared.fault.Applied.TheVariants as applied
-use Rattle.store.specs.declared.fault.StoreFault.{StoreFault}
 use Rattle.store.specs.declared.fault.StoreFault.TheVariants as fault
-use Rattle.store.specs.declared.store.Store.{Store}
-use Rattle.store.specs.Store.{Holds, HasFailed, HoldsAs, Keeps, IsBroken, Applies, Leaves}
-use Rattle.replica.specs.declared.end.Reason.{Reason}
-use Rattle.replica.specs.declared.end.Reason.TheVariants.{EndOfInput, SourceEof, SourceError, Wire, Greet, Event, Gather, Refused, Database, Memory, ReadFailed, WriteFailed, Halted, Until}
-use Rattle.replica.specs.Stream.{Carries}
-use Rattle.wire.specs.Payload.{Payload}
-use Rattle.replica.specs.PayloadStep.{EndsDump, GathersMore, outcome_of, reason_of_events}
+use Rattle.store.specs.Store.{Holds, Keeps, IsBroken, Leaves}
+use Rattle.replica.specs.PayloadStep.{reason_of_events}
 use Rattle.replica.specs.Event.{GoesFurther, EndsOne, IsAsBefore, EndsSo, TakesEvent}
 
 -- ---- the event

@@ -1,23 +1,11 @@
 -- What ends a connection still ends it when more bytes follow.
-use Rattle.std.proofs.Common.{◌≡◌, ◌≢◌, ℕ, Bool, List, ◌++◌, length, refl, ap, ◌∙◌, inl, inr, append_assoc}
-use Rattle.wire.specs.declared.fault.WireFault.{WireFault}
+use Rattle.replica.proofs.Names.{◌≡◌, ◌≢◌, ℕ, Bool, List, ◌++◌, length, refl, ap, ◌∙◌, inl, inr, append_assoc, WireFault, Ids, Names, EventValue, DeliveryValue, Content, Reason, EndOfInput, SourceEof, SourceError, Wire, Greet, Event, Gather, Refused, Database, Memory, ReadFailed, WriteFailed, Halted, Until, Ended, Settings, Due, Reading, due_after, Payload, HasNext, StopsAt, EndsLog, StopsFor, IsWrong, Why, Conn, SentFor, IsLeftOfOne}
 use Rattle.wire.specs.declared.fault.WireFault.TheVariants as wire
 use Rattle.wire.proofs.OneReading.{more_wrong, more_large}
-use Rattle.gtid.specs.Identifier.{Ids}
-use Rattle.binlog.specs.Filter.{Names}
-use Rattle.binlog.specs.Event.{EventValue}
-use Rattle.gather.specs.Transaction.{DeliveryValue}
-use Rattle.store.specs.State.{Content}
-use Rattle.replica.specs.declared.end.Reason.{Reason}
-use Rattle.replica.specs.declared.end.Reason.TheVariants.{EndOfInput, SourceEof, SourceError, Wire, Greet, Event, Gather, Refused, Database, Memory, ReadFailed, WriteFailed, Halted, Until}
-use Rattle.replica.specs.declared.end.Ended.{Ended}
-use Rattle.replica.specs.Settings.{Settings}
-use Rattle.replica.specs.Stream.{Due, Reading, due_after}
-use Rattle.wire.specs.Payload.{Payload}
-use Rattle.replica.specs.End.{HasNext, StopsAt, PassesEnd, EndsLog, EndsWith, StopsFor, IsWrong}
-use Rattle.replica.specs.Conn.{NextEnds, NextAnswers, Why, Conn}
-use Rattle.replica.specs.Sent.{Taken, SentFor}
-use Rattle.replica.specs.Crash.{IsOneMore, IsLeftOfOne}
+use Rattle.replica.specs.End.{PassesEnd, EndsWith}
+use Rattle.replica.specs.Conn.{NextEnds, NextAnswers}
+use Rattle.replica.specs.Sent.{Taken}
+use Rattle.replica.specs.Crash.{IsOneMore}
 
 pub front-append : (b x rest more : List ℕ) → b ≡ x ++ rest → b ++ more ≡ x ++ (rest ++ more)
 front-append b x rest more h = ap (λ (l : List ℕ). l ++ more) h ∙ append_assoc x rest more

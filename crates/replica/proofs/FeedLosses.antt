@@ -1,24 +1,14 @@
 -- Lines that are missing at the end of a run make no difference to a reader of the next open.
-use Rattle.std.proofs.Common.{◌≡◌, inl, inr, Bool, true, false, List, [], ◌∷◌, ◌++◌, map, length, Option, Some, None, Result, Ok, Err, refl, sym, ap, subst, ◌∙◌, append_assoc, append-nil, length-append}
-use Rattle.std.specs.Prelude.{if◌then◌else◌, ◌||◌}
+use Rattle.replica.proofs.Names.{◌≡◌, inl, inr, Bool, true, false, List, [], ◌∷◌, ◌++◌, map, length, Option, Some, None, Result, Ok, Err, refl, sym, ap, subst, ◌∙◌, append_assoc, append-nil, if◌then◌else◌, AllByRecursion, eq_by_cmp, Equal-is, cases_Bool, false≢true, or_cases, or_left, Id, Ids, id_cmp, id_cmp_total, id_cmp-same, Names, ChangeValue, DeliveryValue, Content, Reason, AppliesAll, Notice, stopped, ended, applied_in, IsMadeBy, LeadsBy, BeginsWith, fails_by, EndsAtFailure, IsLeftOfNoted, IsOneMoreNoted}
+use Rattle.std.proofs.Common.{length-append}
+use Rattle.std.specs.Prelude.{◌||◌}
 use Rattle.std.specs.FinSet as set
-use Rattle.std.specs.List.{AllByRecursion}
-use Rattle.std.specs.Ordering.{eq_by_cmp}
-use Rattle.std.specs.Cmp.{Equal-is}
-use Rattle.std.proofs.lemmas.Bool.{cases_Bool, false≢true, or_cases, or_left}
-use Rattle.gtid.specs.Identifier.{Id, Ids, id_cmp}
-use Rattle.gtid.proofs.Sets.{id_cmp_total, id_cmp-same}
-use Rattle.binlog.specs.Filter.{Names}
-use Rattle.gather.specs.Transaction.{ChangeValue, DeliveryValue}
-use Rattle.store.specs.State.{Content}
-use Rattle.replica.specs.declared.end.Reason.{Reason}
-use Rattle.replica.specs.Conn.{AppliesAll}
-use Rattle.replica.specs.Noted.{Notice, opened, before, stopped, after, ended, applied_in, IsMadeBy, LeadsBy, BeginsWith, fails_by, EndsAtFailure, IsLeftOfNoted, IsOneMoreNoted}
+use Rattle.replica.specs.Noted.{opened, before, after}
 use Rattle.replica.specs.Feed.{Line, open_line, change_line, commit_line, rollback_line, gtid_of, lines_after, lines_of, Reader, kept_changes, with_used, after_open, read_line, read_lines, at_first, with_changes, MayBeMissing, AreFed, all_lines}
-use Rattle.replica.proofs.Noted.{all_applied}
+use Rattle.replica.proofs.Notices.{all_applied}
 use Rattle.replica.proofs.Push.{applies_push}
 use Rattle.replica.proofs.Transactions.{itself, still}
-use Rattle.replica.proofs.Copied.{stays}
+use Rattle.replica.proofs.CopyLoads.{stays}
 use Rattle.replica.proofs.FeedReading.{begun, Within, with_changes-append, taken_dropped, taken_used, up_to_one, within_open, kind_of, Reads, reads_all}
 
 -- ---- Lines of one transaction stand together.

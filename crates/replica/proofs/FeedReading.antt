@@ -1,22 +1,9 @@
 -- A reader of all lines of a change feed uses what was applied.
-use Rattle.std.proofs.Common.{◌≡◌, ◌⊎◌, inl, inr, Bool, true, false, List, [], ◌∷◌, ◌++◌, map, length, Option, Some, None, Result, Ok, Err, refl, sym, ap, ap₂, subst, ◌∙◌, append_assoc, append-nil, arith}
-use Rattle.std.specs.Prelude.{if◌then◌else◌}
+use Rattle.replica.proofs.Names.{◌≡◌, ◌⊎◌, inl, inr, Bool, true, false, List, [], ◌∷◌, ◌++◌, map, length, Option, Some, None, Result, Ok, Err, refl, sym, ap, ap₂, subst, ◌∙◌, append_assoc, append-nil, arith, if◌then◌else◌, eq_by_cmp, false≢true, false_from_ne_true, or_cases, or_left, or_right, Id, Ids, id_cmp, id_cmp_total, Names, ChangeValue, DeliveryValue, Content, HasOutcome, done, StoreFault, Reason, EndOfInput, SourceEof, SourceError, Wire, Greet, Event, Gather, Refused, Database, Memory, ReadFailed, WriteFailed, Halted, Until, AppliesAll, Notice, stopped, ended, applied_in, IsMadeBy, LeadsBy, fails_by, EndsAtFailure, IsOneMoreNoted, IsLeftOfNoted}
 use Rattle.std.specs.FinSet as set
-use Rattle.std.specs.Ordering.{eq_by_cmp}
-use Rattle.std.proofs.lemmas.Bool.{false≢true, false_from_ne_true, or_cases, or_left, or_right}
-use Rattle.gtid.specs.Identifier.{Id, Ids, id_cmp}
-use Rattle.gtid.proofs.Sets.{id_cmp_total}
-use Rattle.binlog.specs.Filter.{Names}
-use Rattle.gather.specs.Transaction.{ChangeValue, DeliveryValue}
-use Rattle.store.specs.State.{Content}
-use Rattle.store.specs.Changes.{HasOutcome, done}
-use Rattle.store.specs.declared.fault.StoreFault.{StoreFault}
-use Rattle.replica.specs.declared.end.Reason.{Reason}
-use Rattle.replica.specs.declared.end.Reason.TheVariants.{EndOfInput, SourceEof, SourceError, Wire, Greet, Event, Gather, Refused, Database, Memory, ReadFailed, WriteFailed, Halted, Until}
-use Rattle.replica.specs.Conn.{AppliesAll}
-use Rattle.replica.specs.Noted.{Notice, opened, before, stopped, after, ended, LetsNone, applied_in, IsMadeBy, LeadsBy, fails_by, EndsAtFailure, IsDatabaseFailure, IsOneMoreNoted, IsLeftOfNoted}
+use Rattle.replica.specs.Noted.{opened, before, after, LetsNone, IsDatabaseFailure}
 use Rattle.replica.specs.Feed.{Line, open_line, change_line, commit_line, rollback_line, gtid_of, lines_after, lines_of, Reader, kept_changes, with_used, after_open, read_line, read_lines, has_change, with_changes}
-use Rattle.replica.proofs.Noted.{unchanged, unapplied}
+use Rattle.replica.proofs.Notices.{unchanged, unapplied}
 use Rattle.replica.proofs.Transactions.{itself, still}
 
 -- ---- What a reader keeps.

@@ -1,26 +1,14 @@
 -- A connection while it is being read.
-use Rattle.std.proofs.Common.{◌≡◌, ◌≤◌, ◌⊎◌, ℕ, ◌+◌, Bool, List, [], ◌++◌, length, inr, true, false, Option, None, Some, is_some, option_map, MatchOption, unwrap_or, refl, sym, ap, ◌∙◌, subst, append_assoc}
-use Rattle.std.specs.Io.KnownBytes.{Consumes, Keeps}
+use Rattle.replica.proofs.Names.{◌≡◌, ◌≤◌, ◌⊎◌, ℕ, ◌+◌, Bool, List, [], ◌++◌, length, inr, true, false, Option, None, Some, is_some, MatchOption, unwrap_or, refl, sym, ap, ◌∙◌, subst, append_assoc, Consumes, Keeps, Ghosts, Schema, HasCleanDisk, Names, Content, Store, HoldsAs, EndOfInput, Ended, Session, GoesOn, HasEnded, end_of, room_of, StandsOver, Conn, reported_as, KeepsStore}
+use Rattle.std.proofs.Common.{option_map}
 use Rattle.std.proofs.KnownBytes.{Consumes-trans, Consumes-kept}
-use Rattle.sqlite_trees.specs.declared.store.Store.{Ghosts}
-use Rattle.sqlite_schema.specs.declared.schema.Schema.{Schema}
-use Rattle.sqlite.specs.State.{HasCleanDisk}
 use Rattle.sqlite.specs.Held.{state}
-use Rattle.binlog.specs.Filter.{Names}
-use Rattle.store.specs.State.{Content}
-use Rattle.store.specs.declared.store.Store.{Store}
-use Rattle.store.specs.Store.{HoldsAs}
-use Rattle.replica.specs.declared.end.Reason.TheVariants.{EndOfInput}
-use Rattle.replica.specs.declared.end.Ended.{Ended}
-use Rattle.replica.specs.declared.session.Session.{Session}
-use Rattle.replica.specs.Standing.{Stands, GoesOn, HasEnded, end_of, room_of}
-use Rattle.replica.specs.Over.{StandsOver}
-use Rattle.replica.specs.Conn.{Conn, EndsInLast, reported_as}
+use Rattle.replica.specs.Standing.{Stands}
+use Rattle.replica.specs.Conn.{EndsInLast}
 use Rattle.replica.specs.Over.{HasReadOf}
-use Rattle.replica.specs.Keeps.{KeepsStore}
 use Rattle.replica.proofs.Keeps.{store_then}
 use Rattle.replica.proofs.Runs.{read_all}
-use Rattle.replica.proofs.Followed.{unended}
+use Rattle.replica.proofs.FollowEnds.{unended}
 
 -- how many more reads there may be
 abbrev turns : Option Ended → ℕ → ℕ

@@ -1,15 +1,10 @@
 -- A list of connections, and one more.
-use Rattle.std.proofs.Common.{◌≡◌, ℕ, Bool, false, List, [], ◌∷◌, ◌++◌, ◌+◌, take, inl, inr, refl, sym, ap, ◌∙◌, subst, append_assoc, Vec, Global}
+use Rattle.replica.proofs.Names.{◌≡◌, ℕ, Bool, false, List, [], ◌∷◌, ◌++◌, ◌+◌, take, inl, inr, refl, sym, ap, ◌∙◌, subst, append_assoc, Vec, Global, Names, Content, Ended, Memory, Conn, BreaksStore, History, IsLeftOfOne, IsLeftOfAll}
 use Rattle.std.proofs.lemmas.List.{append-nil}
 use Rattle.std.proofs.lemmas.Grind.{flat_map-append}
-use Rattle.binlog.specs.Filter.{Names}
-use Rattle.store.specs.State.{Content}
-use Rattle.replica.specs.declared.end.Ended.{Ended}
-use Rattle.replica.specs.declared.end.Reason.TheVariants.{Memory}
-use Rattle.replica.specs.Conn.{Conn, BreaksStore, History}
-use Rattle.replica.specs.Crash.{IsOneMoreIn, IsLeftOfOne, IsLeftOfAll}
+use Rattle.replica.specs.Crash.{IsOneMoreIn}
 use Rattle.replica.specs.Pieces.{stream_of}
-use Rattle.replica.proofs.Stood.{unread}
+use Rattle.replica.proofs.Positions.{unread}
 
 pub history-append : (limit : ℕ) (names : Names) (was : Bool) (old : Content) (bs : List (List ℕ)) (is : Bool) (mid : Content) (ends : List Ended) (b : List ℕ) (after : Bool) (new : Content) (end : Ended)
     → History limit names was old bs is mid ends → Conn limit names is mid b new end → BreaksStore end.reason is after

@@ -1,18 +1,11 @@
 -- What a call keeps that may change a store: of one that does nothing, and of one after another.
-use Rattle.std.proofs.Common.{◌≡◌, ◌≢◌, ◌∙◌, List, [], ◌∷◌, ◌++◌, Bool, true, false, refl, sym, subst}
+use Rattle.replica.proofs.Names.{◌≡◌, ◌≢◌, ◌∙◌, List, [], ◌∷◌, ◌++◌, Bool, true, false, refl, sym, subst, Ghosts, HasCleanDisk, Ids, Content, Store, HoldsAs, database, Ended, Account, HasNotices, WasMissing, IsLedSinceOpening, ended, KeepsStore, KeepsObserved, KeepsSinceOpening}
 use Rattle.std.specs.Prelude.{not}
-use Rattle.sqlite_trees.specs.declared.store.Store.{Ghosts}
-use Rattle.sqlite.specs.State.{HasCleanDisk}
-use Rattle.gtid.specs.Identifier.{Ids}
-use Rattle.store.specs.State.{Content}
-use Rattle.store.specs.declared.store.Store.{Store}
-use Rattle.store.specs.Store.{HoldsAs, IsBroken, database}
-use Rattle.replica.specs.declared.end.Ended.{Ended}
-use Rattle.replica.specs.Noted.{Account, HasNotices, HasNoNotice, WasMissing, IsLedSinceOpening, opened, ended}
-use Rattle.replica.specs.Keeps.{KeepsStore, KeepsObserved, KeepsSinceOpening}
-use Rattle.replica.proofs.Observed.{still}
-use Rattle.replica.proofs.Noted.{led_nowhere, led_through, led_to_end, since_from, since_through, no_notice}
-use Rattle.replica.proofs.Missing.{missing_later}
+use Rattle.store.specs.Store.{IsBroken}
+use Rattle.replica.specs.Noted.{HasNoNotice, opened}
+use Rattle.replica.proofs.ObserverEnds.{still}
+use Rattle.replica.proofs.Notices.{led_nowhere, led_through, led_to_end, since_from, since_through, no_notice}
+use Rattle.replica.proofs.WaitSets.{missing_later}
 
 module _ {S : Type 0} (g : Ghosts S) where
   pub store_same : {store : Store S g} → KeepsStore g store store

@@ -1,18 +1,8 @@
 -- A message before the dump.
-use Rattle.std.proofs.Common.{◌≡◌, ℕ, List, Result, Ok, Err, IfErr, inl, inr, refl, sym, subst}
+use Rattle.replica.proofs.Names.{◌≡◌, ℕ, List, Result, Ok, Err, IfErr, inl, inr, refl, sym, subst, Ids, Names, Reason, EndOfInput, SourceEof, SourceError, Wire, Greet, Event, Gather, Refused, Database, Memory, ReadFailed, WriteFailed, Halted, Until, Settings, Due, Reply, SecondReply, next_due, Payload, refusal_of, IsNoEvent, EndsAt, EndsDump, IsAnswered, Sends, InDump, EventValue}
 use Rattle.greet.specs.Message.{IsSwitch}
-use Rattle.gtid.specs.Identifier.{Ids}
-use Rattle.binlog.specs.Filter.{Names}
-use Rattle.replica.specs.declared.end.Reason.{Reason}
-use Rattle.replica.specs.declared.end.Reason.TheVariants.{EndOfInput, SourceEof, SourceError, Wire, Greet, Event, Gather, Refused, Database, Memory, ReadFailed, WriteFailed, Halted, Until}
-use Rattle.replica.specs.Settings.{Settings}
-use Rattle.replica.specs.Stream.{Due, Reply, SecondReply, next_due}
-use Rattle.wire.specs.Payload.{Payload}
-use Rattle.replica.specs.Message.{refusal_of, IsNoEvent}
 use Rattle.replica.specs.Sent.{auth_bytes}
-use Rattle.replica.specs.PayloadStep.{IsReportOf, EndsAt, EndsDump, IsAnswered, Sends}
-use Rattle.replica.specs.Stream.{InDump}
-use Rattle.binlog.specs.Event.{EventValue}
+use Rattle.replica.specs.PayloadStep.{IsReportOf}
 
 pub message_ends : (names : Names) (executed : Ids) (due : Due) (p : Payload) (reason : Reason) → IsNoEvent due p → IsReportOf (refusal_of due p) reason → EndsAt names executed due p reason
 message_ends names executed due p EndOfInput n t = absurd t

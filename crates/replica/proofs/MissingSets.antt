@@ -1,11 +1,6 @@
 -- Sets of GTIDs without others.
-use Rattle.std.proofs.Common.{◌≡◌, ◌≢◌, Bool, true, false, ◌||◌, ◌&&◌, not, inl, inr, refl, sym, ap, subst, ◌∙◌}
+use Rattle.replica.proofs.Names.{◌≡◌, ◌≢◌, Bool, true, false, ◌||◌, ◌&&◌, not, inl, inr, refl, sym, ap, subst, ◌∙◌, Equal-is, eq_by_cmp, cases_Bool, false≢true, false_from_ne_true, Id, Ids, id_cmp, id_cmp_total, id_cmp-same}
 use Rattle.std.specs.FinSet as set
-use Rattle.std.specs.Cmp.{Equal-is}
-use Rattle.std.specs.Ordering.{eq_by_cmp}
-use Rattle.std.proofs.lemmas.Bool.{cases_Bool, false≢true, false_from_ne_true}
-use Rattle.gtid.specs.Identifier.{Id, Ids, id_cmp}
-use Rattle.gtid.proofs.Sets.{id_cmp_total, id_cmp-same}
 
 not_or : (a b c : Bool) → (not b && (a && not c)) ≡ (a && not (b || c))
 not_or true true c = refl

@@ -1,12 +1,9 @@
 -- A connection's bytes have one end.
-use Rattle.std.proofs.Common.{if◌then◌else◌, ◌==◌, ◌≡◌, ◌≢◌, ℕ, ◌⊎◌, ◌≤◌, ◌<◌, ◌+◌, ◌^◌, false, List, [], ◌∷◌, ◌++◌, length, take, refl, sym, ap, ◌∙◌, inl, inr, Some, None, Option, subst, append_assoc, arith}
-use Rattle.std.proofs.lemmas.List.{length-append}
+use Rattle.replica.proofs.Names.{◌≡◌, ◌≢◌, ℕ, ◌⊎◌, ◌≤◌, ◌<◌, ◌+◌, ◌^◌, false, List, [], ◌∷◌, ◌++◌, length, take, refl, sym, ap, ◌∙◌, inl, inr, Some, None, Option, subst, append_assoc, arith, length-append, AllByRecursion, true≢false, WireFault, IsWholePayload, IsUnfinished, Payload, Names, EventValue, IsEvent, DeliveryValue, AreDeliveries, Reason, EndOfInput, SourceEof, SourceError, Wire, Greet, Event, Gather, Refused, Database, Memory, ReadFailed, WriteFailed, Halted, Until, Due, Hello, Reply, SecondReply, QueryReply, InDump, IsInDump, Carries, Answers, Talks, Reading, next_due, next_id, due_from, due_after, refusal_of, begins_event, IsNoEvent, HasNext, StopsAt, EndsLog, StopsFor, IsWrong, Denies, End}
+use Rattle.std.proofs.Common.{if◌then◌else◌, ◌==◌}
 use Rattle.std.proofs.Math.Seq.{take-append_seam}
-use Rattle.std.specs.List.{AllByRecursion}
-use Rattle.std.proofs.lemmas.Bool.{true≢false}
-use Rattle.wire.specs.declared.fault.WireFault.{WireFault}
 use Rattle.wire.specs.declared.fault.WireFault.TheVariants as wire
-use Rattle.wire.specs.Payload.{IsWholePayload, IsUnfinished, IsOutOfSequence, IsTooLarge, Payload}
+use Rattle.wire.specs.Payload.{IsOutOfSequence, IsTooLarge}
 use Rattle.wire.proofs.OnePacking.{none_begins}
 use Rattle.wire.proofs.OneReading.{wrong_or_whole, large_or_whole, one_wrong_id, wrong_or_large}
 use Rattle.greet.specs.Message.{IsEofPacket}
@@ -16,22 +13,18 @@ use Rattle.greet.specs.declared.fault.GreetFault.{GreetFault}
 use Rattle.greet.specs.declared.fault.GreetFault.TheVariants as greet
 use Rattle.greet.proofs.Replies.{switch_not_refused, ok_not_refused, ok_reply_not_refused, eof_not_refused}
 use Rattle.greet.proofs.Greetings.{not_refused}
-use Rattle.binlog.specs.Filter.{Names}
-use Rattle.binlog.specs.Event.{EventValue, IsEvent, event_fault}
+use Rattle.binlog.specs.Event.{event_fault}
 use Rattle.binlog.specs.declared.fault.EventFault.{EventFault}
 use Rattle.binlog.proofs.Events.{one_event, event_not_refused}
-use Rattle.gather.specs.Transaction.{DeliveryValue, AreDeliveries, IsLawful}
+use Rattle.gather.specs.Transaction.{IsLawful}
 use Rattle.gather.specs.Fault.{IsFault}
 use Rattle.gather.specs.declared.fault.GatherFault.{GatherFault}
 use Rattle.gather.proofs.NextEvents.{not_both, one as one_fault}
-use Rattle.gather.proofs.Shortening.{beginning}
-use Rattle.replica.specs.declared.end.Reason.{Reason}
-use Rattle.replica.specs.declared.end.Reason.TheVariants.{EndOfInput, SourceEof, SourceError, Wire, Greet, Event, Gather, Refused, Database, Memory, ReadFailed, WriteFailed, Halted, Until}
-use Rattle.replica.specs.Stream.{Due, Hello, Reply, SecondReply, QueryReply, InDump, IsInDump, Carries, Answers, Talks, Reading, next_due, next_id, due_from, due_after}
-use Rattle.replica.specs.Message.{refusal_of, begins_event, IsNoEvent, IsOfMessage}
+use Rattle.gather.proofs.ShorterLists.{beginning}
+use Rattle.replica.specs.Message.{IsOfMessage}
 use Rattle.replica.specs.Report.{Report, Verdict, report_of, reported_refusal}
 use Rattle.replica.specs.Report as reported
-use Rattle.replica.specs.End.{HasNext, StopsAt, PassesEnd, EndsLog, EndsWith, StopsFor, IsWrong, Denies, End}
+use Rattle.replica.specs.End.{PassesEnd, EndsWith}
 use Rattle.replica.proofs.Bytes.{all_front, all_back, packed_bytes}
 
 -- ---- What a payload carries.

@@ -1,30 +1,14 @@
 -- What a connection comes to is determined by its bytes and the content before.
-use Rattle.std.proofs.Common.{◌≡◌, ◌≤◌, ◌<◌, ◌+◌, ℕ, zero, suc, ◌⊎◌, Bool, true, false, List, [], ◌∷◌, ◌++◌, length, Some, None, refl, sym, ap, ◌∙◌, inl, inr, subst, arith, append_assoc, append-nil, MatchBool}
-use Rattle.std.proofs.lemmas.List.{length-append}
-use Rattle.std.proofs.lemmas.Bool.{false≢true}
-use Rattle.std.specs.List.{AllByRecursion}
+use Rattle.replica.proofs.Names.{◌≡◌, ◌≤◌, ◌<◌, ◌+◌, ℕ, zero, suc, ◌⊎◌, Bool, true, false, List, [], ◌∷◌, ◌++◌, length, Some, None, refl, sym, ap, ◌∙◌, inl, inr, subst, arith, append_assoc, append-nil, MatchBool, length-append, false≢true, AllByRecursion, Names, EventValue, ChangeValue, DeliveryValue, AreDeliveries, IsFromBytes, one_list_of_deliveries, row_of, Bag, Content, IsMade, IsRefused, IsRefusedAt, is_admitted, AreDone, is_executed, most, NoSuchRow, CountFull, Reason, EndOfInput, SourceEof, SourceError, Wire, Greet, Event, Gather, Refused, Database, Memory, ReadFailed, WriteFailed, Halted, Until, Ended, Due, Hello, Reply, SecondReply, QueryReply, InDump, IsInDump, Carries, Answers, Talks, Reading, next_due, next_id, due_from, due_after, Payload, StopsFor, End, AppliesAll, IsRefusedBy, IsDumpTooLong, Why, Conn, IsInFull}
 use Rattle.wire.specs.declared.fault.WireFault.TheVariants as wire
-use Rattle.binlog.specs.Filter.{Names}
-use Rattle.binlog.specs.Event.{EventValue}
-use Rattle.gather.specs.Transaction.{ChangeValue, insert, delete, update, DeliveryValue, AreDeliveries}
-use Rattle.gather.specs.Fault.{IsFromBytes}
-use Rattle.gather.proofs.OneList.{one_list_of_deliveries}
-use Rattle.gather.proofs.Shortening as shortening
-use Rattle.store.specs.State.{row_of, Bag, Content}
-use Rattle.store.specs.Changes.{IsMade, IsRefused, IsRefusedAt, IsDone, is_admitted, AreDone, is_executed, most}
+use Rattle.gather.specs.Transaction.{insert, delete, update}
+use Rattle.gather.proofs.ShorterLists as shortening
+use Rattle.store.specs.Changes.{IsDone}
 use Rattle.store.specs.declared.row_change.Refusal.TheVariants as why
 use Rattle.store.specs.declared.row_change.Refusal as row
 use Rattle.replica.specs.declared.end.Refusal.{Refusal}
-use Rattle.replica.specs.declared.end.Refusal.TheVariants.{NoSuchRow, CountFull}
-use Rattle.replica.specs.declared.end.Reason.{Reason}
-use Rattle.replica.specs.declared.end.Reason.TheVariants.{EndOfInput, SourceEof, SourceError, Wire, Greet, Event, Gather, Refused, Database, Memory, ReadFailed, WriteFailed, Halted, Until}
-use Rattle.replica.specs.declared.end.Ended.{Ended}
-use Rattle.replica.specs.Stream.{Due, Hello, Reply, SecondReply, QueryReply, InDump, IsInDump, Carries, Answers, Talks, Reading, next_due, next_id, due_from, due_after}
-use Rattle.wire.specs.Payload.{Payload}
-use Rattle.replica.specs.End.{StopsFor, End}
-use Rattle.replica.specs.Conn.{AppliesAll, IsRefusedBy, IsDumpTooLong, NextAnswers, IsRefusedNext, Why, Conn, IsOfBytes}
+use Rattle.replica.specs.Conn.{NextAnswers, IsRefusedNext, IsOfBytes}
 use Rattle.replica.specs.Report.{report_of}
-use Rattle.replica.specs.Follow.{IsInFull}
 use Rattle.replica.specs.Outcome.{refused_by, IsSameEnd}
 use Rattle.replica.proofs.Bytes.{all_front, all_back, all_both, packed_bytes}
 use Rattle.replica.proofs.Transactions.{all_one, halves, one_by, taken_at, head_of, tail_of}

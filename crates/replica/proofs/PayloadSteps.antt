@@ -1,29 +1,11 @@
 -- A session takes a payload.
-use Rattle.std.proofs.Common.{◌≡◌, ◌≢◌, ℕ, ◌+◌, ◌^◌, ◌<◌, ◌≤◌, Bool, List, [], ◌∷◌, ◌++◌, length, Some, None, MatchOption, inl, inr, refl, sym, ap, subst, ◌∙◌, append_assoc, append-nil, arith}
-use Rattle.std.proofs.lemmas.List.{length-append}
-use Rattle.wire.specs.Packet.{packing_length}
-use Rattle.wire.specs.Payload.{ReaderState, IsUnfinished, Payload}
+use Rattle.replica.proofs.Names.{◌≡◌, ◌≢◌, ℕ, ◌+◌, ◌^◌, ◌<◌, ◌≤◌, Bool, List, [], ◌∷◌, ◌++◌, length, Some, None, MatchOption, inl, inr, refl, sym, ap, subst, ◌∙◌, append_assoc, append-nil, arith, length-append, packing_length, ReaderState, IsUnfinished, Payload, nothing_yet, length_packing, Names, Gatherer, Content, Reason, EndOfInput, SourceEof, SourceError, Wire, Greet, Event, Gather, Refused, Database, Memory, ReadFailed, WriteFailed, Halted, Until, Ended, Phase, Session, Settings, Hello, IsInDump, next_due, next_id, due_after, StopsAt, AppliesAll, Why, BreaksStore, SentFor, GoesOn, HasEnded, HasPayload, due_at, due_of, room_of, IsAnswered, EndsAt}
 use Rattle.wire.specs.declared.fault.WireFault.TheVariants as wire
-use Rattle.wire.proofs.OneReading.{nothing_yet}
-use Rattle.wire.proofs.OnePacking.{length_packing}
-use Rattle.binlog.specs.Filter.{Names}
-use Rattle.gather.specs.declared.gatherer.Gatherer.{Gatherer}
-use Rattle.store.specs.State.{Content}
-use Rattle.replica.specs.declared.end.Reason.{Reason}
-use Rattle.replica.specs.declared.end.Reason.TheVariants.{EndOfInput, SourceEof, SourceError, Wire, Greet, Event, Gather, Refused, Database, Memory, ReadFailed, WriteFailed, Halted, Until}
-use Rattle.replica.specs.declared.end.Ended.{Ended}
-use Rattle.replica.specs.declared.phase.Phase.{Phase}
 use Rattle.replica.specs.declared.phase.Phase.TheVariants as phases
 use Rattle.replica.specs.declared.phase.Login.{Login}
 use Rattle.replica.specs.declared.phase.Login.TheVariants as login
-use Rattle.replica.specs.declared.session.Session.{Session}
-use Rattle.replica.specs.Settings.{Settings}
-use Rattle.replica.specs.Stream.{Hello, IsInDump, next_due, next_id, due_after}
-use Rattle.replica.specs.End.{StopsAt}
-use Rattle.replica.specs.Conn.{AppliesAll, Why, BreaksStore}
-use Rattle.replica.specs.Sent.{Sent, SentFor}
-use Rattle.replica.specs.Standing.{GoesOn, HasEnded, Stands, HasPayload, due_at, due_of, first_id_of, room_of}
-use Rattle.replica.specs.PayloadStep.{IsAnswered, EndsAt}
+use Rattle.replica.specs.Sent.{Sent}
+use Rattle.replica.specs.Standing.{Stands, first_id_of}
 use Rattle.replica.proofs.Push.{due_push, id_is_next, could_ask, no_events, no_deliveries, responds_push, with_message}
 
 -- ---- sessions that go on, and that have ended

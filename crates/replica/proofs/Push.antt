@@ -1,20 +1,12 @@
 -- One payload more.
-use Rattle.std.proofs.Common.{◌≡◌, ℕ, ◌+◌, ◌^◌, ◌<◌, true, false, List, [], ◌∷◌, ◌++◌, length, flat_map, if◌then◌else◌, inl, inr, refl, sym, ap, subst, ◌∙◌, append_assoc, append-nil, arith}
-use Rattle.std.proofs.lemmas.List.{length-append}
-use Rattle.wire.specs.Payload.{IsWholePayload, Payload}
-use Rattle.gtid.specs.Identifier.{Ids}
-use Rattle.binlog.specs.Filter.{Names}
-use Rattle.binlog.specs.Event.{EventValue}
-use Rattle.gather.specs.Transaction.{DeliveryValue, AreBlocks, IsBlock, AreDeliveries}
-use Rattle.store.specs.State.{Content}
-use Rattle.replica.specs.declared.phase.Phase.{Phase}
+use Rattle.replica.proofs.Names.{◌≡◌, ℕ, ◌+◌, ◌^◌, ◌<◌, true, false, List, [], ◌∷◌, ◌++◌, length, flat_map, inl, inr, refl, sym, ap, subst, ◌∙◌, append_assoc, append-nil, arith, length-append, IsWholePayload, Payload, Ids, Names, EventValue, DeliveryValue, AreDeliveries, Content, Phase, Settings, Due, Hello, Reply, SecondReply, QueryReply, InDump, next_due, next_id, due_from, due_after, IsInDump, Answers, Talks, Reading, AppliesAll, IsDumpTooLong, due_of}
+use Rattle.std.proofs.Common.{if◌then◌else◌}
+use Rattle.gather.specs.Transaction.{AreBlocks, IsBlock}
 use Rattle.replica.specs.declared.phase.Phase.TheVariants as phases
 use Rattle.replica.specs.declared.phase.Login.TheVariants as login
-use Rattle.replica.specs.Settings.{Settings}
-use Rattle.replica.specs.Stream.{Due, Hello, Reply, SecondReply, QueryReply, InDump, begins_switch, next_due, next_id, due_from, due_after, IsInDump, Answers, Talks, Reading}
-use Rattle.replica.specs.Conn.{AppliesAll, IsDumpTooLong}
+use Rattle.replica.specs.Stream.{begins_switch}
 use Rattle.replica.specs.Sent.{Responds, RespondsFrom}
-use Rattle.replica.specs.Standing.{due_of, first_id_of}
+use Rattle.replica.specs.Standing.{first_id_of}
 
 -- ---- the expected message
 pub due_push : (d : Due) (ps : List Payload) (p : Payload) → due_from d (ps ++ p ∷ []) ≡ next_due (due_from d ps) p

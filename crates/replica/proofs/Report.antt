@@ -1,16 +1,9 @@
 -- What an end reports.
-use Rattle.std.proofs.Common.{◌≡◌, ◌↔◌, ◌⊎◌, ap, ℕ, Bool, List, ◌++◌, length, refl, inl, inr, Some, None, MatchOption, unwrap_or}
+use Rattle.replica.proofs.Names.{◌≡◌, ◌⊎◌, ap, ℕ, Bool, List, ◌++◌, length, refl, inl, inr, Some, None, MatchOption, unwrap_or, Names, Content, Reason, EndOfInput, SourceEof, SourceError, Wire, Greet, Event, Gather, Refused, Database, Memory, ReadFailed, WriteFailed, Halted, Until, Ended, Session, Reading, due_after, End, StopsFor, Conn, AppliesFirst, Why, IsDumpTooLong, GoesOn, HasEnded, end_of}
+use Rattle.std.proofs.Common.{◌↔◌}
 use Rattle.wire.specs.declared.fault.WireFault.TheVariants as wire
-use Rattle.binlog.specs.Filter.{Names}
-use Rattle.store.specs.State.{Content}
-use Rattle.replica.specs.declared.end.Reason.{Reason}
-use Rattle.replica.specs.declared.end.Reason.TheVariants.{EndOfInput, SourceEof, SourceError, Wire, Greet, Event, Gather, Refused, Database, Memory, ReadFailed, WriteFailed, Halted, Until}
-use Rattle.replica.specs.declared.end.Ended.{Ended}
-use Rattle.replica.specs.declared.session.Session.{Session}
-use Rattle.replica.specs.Stream.{Reading, due_after}
-use Rattle.replica.specs.End.{End, StopsFor}
-use Rattle.replica.specs.Conn.{Conn, AppliesFirst, Why, IsOfBytes, IsDumpTooLong}
-use Rattle.replica.specs.Standing.{GoesOn, HasEnded, Stands, end_of}
+use Rattle.replica.specs.Conn.{IsOfBytes}
+use Rattle.replica.specs.Standing.{Stands}
 
 pub begun_of : (limit : ℕ) (names : Names) (was : Bool) (old : Content) (b : List ℕ) (new : Content) (end : Ended) → Conn limit names was old b new end → (count : ℕ) × AppliesFirst limit names old b count end.applied new
 begun_of limit names was old b new end c = (length c.reading.deliveries, record { reading = c.reading; counted = refl; has_applied = c.has_applied })

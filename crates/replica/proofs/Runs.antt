@@ -1,26 +1,14 @@
 -- A session over a store from its begin to its end, and connections in order.
-use Rattle.std.proofs.Common.{◌≡◌, ℕ, Bool, true, false, List, [], ◌∷◌, ◌++◌, ◌+◌, take, inl, inr, refl, sym, ap, ◌∙◌, subst, IsTrue, Vec, Global}
-use Rattle.std.proofs.lemmas.List.{map-append}
-use Rattle.std.proofs.lemmas.Bool.{true≢false}
-use Rattle.sqlite_trees.specs.declared.store.Store.{Ghosts}
-use Rattle.sqlite_trees.specs.Tree.{Trees}
-use Rattle.sqlite_schema.specs.declared.schema.Schema.{Schema}
-use Rattle.sqlite.specs.Held.{Held, state}
-use Rattle.store.specs.State.{Content}
-use Rattle.store.specs.declared.store.Store.{Store}
-use Rattle.store.specs.Store.{HoldsAs, Holds, HasFailed, AreOf}
-use Rattle.store.proofs.Applying as applying
-use Rattle.replica.specs.declared.end.Ended.{Ended}
-use Rattle.replica.specs.declared.end.Reason.TheVariants.{Memory}
-use Rattle.replica.specs.declared.session.Session.{Session}
-use Rattle.replica.specs.Conn.{Conn, BreaksStore, History}
-use Rattle.replica.specs.Crash.{IsLeftOfOne, IsLeftOfAll}
-use Rattle.replica.specs.Pieces.{stream_of, streams_of}
-use Rattle.replica.specs.Standing.{Stands, end_of}
-use Rattle.replica.specs.Over.{StandsOver, LeavesOnly, HasRead, HasReadAll}
-use Rattle.replica.proofs.Stood.{conn_of, store_of}
+use Rattle.replica.proofs.Names.{◌≡◌, ℕ, Bool, true, false, List, [], ◌∷◌, ◌++◌, ◌+◌, take, inl, inr, refl, sym, ap, ◌∙◌, subst, IsTrue, Vec, Global, map-append, true≢false, Ghosts, Trees, Schema, Held, Content, Store, HoldsAs, HasFailed, AreOf, Ended, Memory, Session, Conn, BreaksStore, History, IsLeftOfOne, IsLeftOfAll, streams_of, end_of, StandsOver, LeavesOnly, HasReadAll}
+use Rattle.sqlite.specs.Held.{state}
+use Rattle.store.specs.Store.{Holds}
+use Rattle.store.proofs.ExecutedInMemory as applying
+use Rattle.replica.specs.Pieces.{stream_of}
+use Rattle.replica.specs.Standing.{Stands}
+use Rattle.replica.specs.Over.{HasRead}
+use Rattle.replica.proofs.Positions.{conn_of, store_of}
 use Rattle.replica.proofs.Histories.{conn-unread, history-append, here, stays}
-use Rattle.replica.proofs.Dumping.{either}
+use Rattle.replica.proofs.DumpSteps.{either}
 
 module _ {S : Type 0} (g : Ghosts S) (settled : (h : Held S) (db : Trees) → IsTrue (state g h).is_open → (state g h).may_leave db → db ≡ (state g h).committed.trees) where
   -- a crash leaves of a whole store what it holds

@@ -1,25 +1,9 @@
 -- A connection's bytes have an end.
-use Rattle.std.proofs.Common.{◌≡◌, ℕ, zero, suc, ◌+◌, ◌^◌, ◌<◌, ◌⊎◌, false, List, [], ◌∷◌, ◌++◌, length, refl, sym, ap, subst, ◌∙◌, inl, inr, arith, append_assoc, append-nil}
-use Rattle.std.proofs.lemmas.List.{length-append}
-use Rattle.std.proofs.lemmas.Bool.{false≢true}
-use Rattle.std.specs.List.{AllByRecursion}
-use Rattle.wire.specs.declared.fault.WireFault.{WireFault}
+use Rattle.replica.proofs.Names.{◌≡◌, ℕ, zero, suc, ◌+◌, ◌^◌, ◌<◌, ◌⊎◌, false, List, [], ◌∷◌, ◌++◌, length, refl, sym, ap, subst, ◌∙◌, inl, inr, arith, append_assoc, append-nil, length-append, false≢true, AllByRecursion, WireFault, IsUnfinished, Payload, length_packing, Names, EventValue, DeliveryValue, AreDeliveries, IsFromBytes, Content, Reason, EndOfInput, SourceEof, SourceError, Wire, Greet, Event, Gather, Refused, Database, Memory, ReadFailed, WriteFailed, Halted, Until, Due, Hello, Reply, SecondReply, QueryReply, InDump, IsInDump, Carries, Answers, Reading, next_due, next_id, due_after, HasNext, StopsAt, IsWrong, Denies, AppliesAll, IsDumpTooLong, Why, IsInFull}
 use Rattle.wire.specs.declared.fault.WireFault.TheVariants as wire
-use Rattle.wire.specs.Payload.{IsUnfinished, Payload}
 use Rattle.wire.specs.Stream.{Ending, Held, OutOfSequence, TooLarge, IsStream}
 use Rattle.wire.proofs.SomeReading.{some_reading}
-use Rattle.wire.proofs.OnePacking.{length_packing}
-use Rattle.binlog.specs.Filter.{Names}
-use Rattle.binlog.specs.Event.{EventValue}
-use Rattle.gather.specs.Transaction.{DeliveryValue, AreDeliveries}
-use Rattle.gather.specs.Fault.{IsFromBytes}
-use Rattle.store.specs.State.{Content}
-use Rattle.replica.specs.declared.end.Reason.{Reason}
-use Rattle.replica.specs.declared.end.Reason.TheVariants.{EndOfInput, SourceEof, SourceError, Wire, Greet, Event, Gather, Refused, Database, Memory, ReadFailed, WriteFailed, Halted, Until}
-use Rattle.replica.specs.Stream.{Due, Hello, Reply, SecondReply, QueryReply, InDump, IsInDump, Carries, Answers, Reading, next_due, next_id, due_after}
-use Rattle.replica.specs.End.{HasNext, StopsAt, IsWrong, Denies}
-use Rattle.replica.specs.Conn.{AppliesAll, IsDumpTooLong, HasApplied, Why}
-use Rattle.replica.specs.Follow.{IsInFull}
+use Rattle.replica.specs.Conn.{HasApplied}
 use Rattle.replica.specs.Outcome.{HasEnd}
 use Rattle.replica.proofs.Bytes.{all_front, all_back, packed_bytes}
 use Rattle.replica.proofs.Push.{due_push, could_ask, talks_push, applies_push}

@@ -1,30 +1,21 @@
 -- Each payload is the expected message, ends the log, or is refused.
-use Rattle.std.proofs.Common.{◌≡◌, ℕ, ◌^◌, ◌<◌, ◌⊎◌, false, List, [], ◌∷◌, ◌++◌, length, Option, Some, None, refl, sym, ap, subst, ◌∙◌, inl, inr, arith}
-use Rattle.std.proofs.lemmas.Bool.{cases_eq, ne_eqb}
+use Rattle.replica.proofs.Names.{◌≡◌, ℕ, ◌^◌, ◌<◌, ◌⊎◌, false, List, [], ◌∷◌, ◌++◌, length, Option, Some, None, refl, sym, ap, subst, ◌∙◌, inl, inr, arith, cases_eq, AllByRecursion, Names, EventValue, DeliveryValue, AreDeliveries, IsFromBytes, one_list_of_deliveries, Reason, SourceError, Greet, Event, Gather, Due, Hello, Reply, SecondReply, QueryReply, InDump, IsInDump, Carries, Answers, Payload, refusal_of, begins_event, IsNoEvent, Denies}
+use Rattle.std.proofs.lemmas.Bool.{ne_eqb}
 use Rattle.std.proofs.lemmas.List.{length-take}
-use Rattle.std.specs.List.{AllByRecursion}
 use Rattle.std.specs.Global.{Vec, Global}
 use denote.RawPtr.{null_ptr}
 use Rattle.greet.specs.Message.{IsOkPacket, IsEofPacket}
 use Rattle.greet.specs.Complete.{HasGreeting, HasSwitch, IsErrOf}
 use Rattle.greet.specs.Refusal.{Refusal, server_error, protocol, truncated, capabilities, plugin, old_auth, unexpected, kept_message, greeting_refusal, reply_refusal, ok_refusal, eof_refusal}
 use Rattle.greet.specs.declared.fault.GreetFault.TheVariants as greet
-use Rattle.binlog.specs.Filter.{Names}
-use Rattle.binlog.specs.Event.{EventValue, event_fault}
+use Rattle.binlog.specs.Event.{event_fault}
 use Rattle.binlog.specs.declared.fault.EventFault.{EventFault}
 use Rattle.binlog.proofs.Events.{has_event}
 use Rattle.wire.proofs.Cuts.{IsBytes-all}
-use Rattle.gather.specs.Transaction.{DeliveryValue, AreDeliveries, IsLawful}
-use Rattle.gather.specs.Fault.{IsFromBytes, HasFault, last_block}
+use Rattle.gather.specs.Transaction.{IsLawful}
+use Rattle.gather.specs.Fault.{HasFault, last_block}
 use Rattle.gather.proofs.NextEvents.{some}
-use Rattle.gather.proofs.OneList.{one_list_of_deliveries}
-use Rattle.gather.proofs.Shortening.{Given, stays, gives, given, back, ended}
-use Rattle.replica.specs.declared.end.Reason.{Reason}
-use Rattle.replica.specs.declared.end.Reason.TheVariants.{SourceError, Greet, Event, Gather}
-use Rattle.replica.specs.Stream.{Due, Hello, Reply, SecondReply, QueryReply, InDump, IsInDump, Carries, Answers}
-use Rattle.wire.specs.Payload.{Payload}
-use Rattle.replica.specs.Message.{refusal_of, begins_event, IsNoEvent}
-use Rattle.replica.specs.End.{Denies}
+use Rattle.gather.proofs.ShorterLists.{Given, stays, gives, given, back, ended}
 
 abbrev pub IsBytes : List ℕ → Type 0
 IsBytes b = AllByRecursion (λ byte. byte < 256) b

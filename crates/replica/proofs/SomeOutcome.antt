@@ -1,20 +1,14 @@
 -- Each transaction is taken, has been executed already, or is refused.
-use Rattle.std.proofs.Common.{◌≡◌, ℕ, zero, suc, ◌+◌, ◌<◌, ◌≤◌, ◌⊎◌, false, List, [], ◌∷◌, refl, sym, ap, subst, ◌∙◌, inl, inr, arith, MatchBool}
-use Rattle.std.proofs.lemmas.Bool.{cases_lt, cases_Bool, cases_eq}
+use Rattle.replica.proofs.Names.{◌≡◌, ℕ, zero, suc, ◌+◌, ◌<◌, ◌≤◌, ◌⊎◌, false, List, [], ◌∷◌, refl, sym, ap, subst, ◌∙◌, inl, inr, arith, MatchBool, cases_lt, cases_Bool, cases_eq, bytes_eq-Decides, Names, CellValue, ChangeValue, DeliveryValue, TableRow, row_of, Bag, Content, IsRemoved, IsMade, IsRefused, IsRefusedAt, AreDone, HasOutcome, done, is_admitted, is_executed, most, NoSuchRow, CountFull, IsRefusedBy}
 use Rattle.std.proofs.lemmas.Bool.Decides.{not_from_Decides}
-use Rattle.std.proofs.lemmas.Slice.Eq.{bytes_eq-Decides}
 use Rattle.std.specs.Str.{bytes_eq}
 use Rattle.std.specs.FinSet as set
-use Rattle.binlog.specs.Filter.{Names}
-use Rattle.binlog.specs.Cell.{CellValue, null_cell, number_cell, bytes_cell}
-use Rattle.gather.specs.Transaction.{ChangeValue, insert, delete, update, DeliveryValue}
-use Rattle.store.specs.State.{TableRow, row_of, Bag, Content}
-use Rattle.store.specs.Changes.{IsAdded, IsRemoved, IsMade, IsRefused, IsRefusedAt, IsDone, AreDone, HasOutcome, done, repeat, is_admitted, is_executed, most}
+use Rattle.binlog.specs.Cell.{null_cell, number_cell, bytes_cell}
+use Rattle.gather.specs.Transaction.{insert, delete, update}
+use Rattle.store.specs.Changes.{IsAdded, IsDone, repeat}
 use Rattle.store.specs.declared.row_change.Refusal.TheVariants as why
 use Rattle.store.specs.declared.row_change.Refusal as row
 use Rattle.replica.specs.declared.end.Refusal.{Refusal}
-use Rattle.replica.specs.declared.end.Refusal.TheVariants.{NoSuchRow, CountFull}
-use Rattle.replica.specs.Conn.{IsRefusedBy}
 
 -- ---- Rows are equal or not.
 

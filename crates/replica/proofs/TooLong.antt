@@ -1,12 +1,11 @@
 -- Whether the dump command for a set would be too long: a set has one encoding or none.
-use Rattle.std.proofs.Common.{◌≡◌, ℕ, ◌+◌, ◌^◌, ◌<◌, ◌⊎◌, List, [], ◌∷◌, length, Option, Some, None, refl, sym, ap, subst, ◌∙◌, inl, inr, arith, true≢false}
-use Rattle.std.proofs.lemmas.Bool.{cases_lt, cases_Bool, cases_eq}
-use Rattle.gtid.specs.Identifier.{Ids}
-use Rattle.gtid.specs.Encoding.{SidBlock, grouped, blocks_bytes, is_above, AreIntervals, AreSidBlocks, IsEncoding}
+use Rattle.replica.proofs.Names.{◌≡◌, ℕ, ◌+◌, ◌^◌, ◌<◌, ◌⊎◌, List, [], ◌∷◌, length, Option, Some, None, refl, sym, ap, subst, ◌∙◌, inl, inr, arith, cases_lt, cases_Bool, cases_eq, Ids, IsEncoding, IsDumpTooLong}
+use Rattle.std.proofs.Common.{true≢false}
+use Rattle.gtid.specs.Encoding.{SidBlock, grouped, blocks_bytes, is_above, AreIntervals, AreSidBlocks}
 use Rattle.gtid.proofs.OneLeastList.{one_least_list}
 use Rattle.gtid.proofs.SomeLeastList.{some_least_list}
 use Rattle.wire.specs.Packet.{largest_payload}
-use Rattle.replica.specs.Conn.{dump_lead, IsDumpTooLong}
+use Rattle.replica.specs.Conn.{dump_lead}
 
 abbrev Decided : Type 0 → Type 0
 Decided P = P ⊎ (P → ⊥)

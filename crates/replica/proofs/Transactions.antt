@@ -1,21 +1,13 @@
 -- Transactions that are taken in order: their outcome, and which of them a set has.
-use Rattle.std.proofs.Common.{◌≡◌, ◌≢◌, ℕ, zero, suc, ◌+◌, ◌≤◌, Bool, true, false, not, ◌||◌, List, [], ◌∷◌, ◌++◌, length, take, drop, map, refl, sym, ap, subst, ◌∙◌, inl, inr, arith, MatchBool}
-use Rattle.std.proofs.lemmas.Bool.{cases_lt, false≢true, or_right}
+use Rattle.replica.proofs.Names.{◌≡◌, ◌≢◌, ℕ, zero, suc, ◌+◌, ◌≤◌, Bool, true, false, not, ◌||◌, List, [], ◌∷◌, ◌++◌, length, take, map, refl, sym, ap, subst, ◌∙◌, inl, inr, arith, MatchBool, cases_lt, false≢true, or_right, AllByRecursion, Id, Ids, id_cmp, id_cmp_total, Names, ChangeValue, DeliveryValue, TableRow, row_of, Bag, Content, IsRemoved, IsMade, is_admitted, AreDone, is_executed, HasOutcome, done, AppliesAll, ScriptValue, transactions}
+use Rattle.std.proofs.Common.{drop}
 use Rattle.std.proofs.lemmas.List.Elements.{filter-append}
-use Rattle.std.specs.List.{AllByRecursion}
 use Rattle.std.specs.Cmp.{tied_itself}
 use Rattle.std.specs.Ordering.{is_eq}
 use Rattle.std.specs.FinSet as set
-use Rattle.gtid.specs.Identifier.{Id, Ids, id_cmp}
-use Rattle.gtid.proofs.Sets.{id_cmp_total}
-use Rattle.binlog.specs.Filter.{Names}
-use Rattle.gather.specs.Transaction.{ChangeValue, insert, delete, update, DeliveryValue}
-use Rattle.store.specs.State.{TableRow, row_of, Bag, Content}
-use Rattle.store.specs.Changes.{IsAdded, IsRemoved, IsMade, is_admitted, AreDone, is_executed, HasOutcome, done}
-use Rattle.replica.specs.Conn.{AppliesAll}
-use Rattle.scripted_source.specs.Script.{ScriptValue}
+use Rattle.gather.specs.Transaction.{insert, delete, update}
+use Rattle.store.specs.Changes.{IsAdded}
 use Rattle.scripted_source.specs.Source.{due}
-use Rattle.replica.specs.Resume.{transactions}
 
 -- ---- What is made of a bag is determined.
 

@@ -3,8 +3,10 @@ use Rattle.std.specs.Prelude.{◌≡◌, ◌≢◌, ◌⊎◌, ◌||◌, ℕ, Bo
 use Rattle.sqlite_trees.specs.declared.store.Store.{Ghosts}
 use Rattle.sqlite_schema.specs.declared.schema.Schema.{Schema}
 use Rattle.std.specs.FinSet as set
+use Rattle.wire.specs.Payload.{Payload}
 use Rattle.gtid.specs.Identifier.{Ids}
 use Rattle.binlog.specs.Filter.{Names}
+use Rattle.binlog.specs.Event.{EventValue}
 use Rattle.gather.specs.Transaction.{DeliveryValue}
 use Rattle.store.specs.State.{Content}
 use Rattle.store.specs.Changes.{HasOutcome, done, repeat, is_executed}
@@ -33,6 +35,18 @@ abbrev pub HasBeenNoted : Option (List Notice) → Option (List Notice) → List
 HasBeenNoted was None notices = Unit {0}
 HasBeenNoted None (Some is) notices = ⊥
 HasBeenNoted (Some was) (Some is) notices = is ≡ was ++ notices
+
+-- What an observer is given of the payloads of a dump: each event with its bytes, header and body, and how many changes of the open
+-- transaction came before it; and a payload that ends the connection without ending a transaction, with the reason.
+pub data Seen : Type 0 where
+  event_read : EventValue → List ℕ → ℕ → Seen
+  refused_payload : Payload → Reason → Seen
+
+-- An observer may keep a list of what it is given. If it does so afterwards, it did so before, and this was added to it.
+abbrev pub HasBeenSeen : Option (List Seen) → Option (List Seen) → List Seen → Type 0
+HasBeenSeen was None seen = Unit {0}
+HasBeenSeen None (Some is) seen = ⊥
+HasBeenSeen (Some was) (Some is) seen = is ≡ was ++ seen
 
 -- what is reported before a transaction: nothing of one that is executed
 abbrev pub asked_about : Content → DeliveryValue → Bool → List Notice
@@ -170,6 +184,8 @@ IsLeftOfNoted names notices new left = (left ≡ new) ⊎ IsOneMoreNoted names n
 pub record Account : Type 0 where
   -- what was reported to it, if it keeps an account of that
   pub noted : Option (List Notice)
+  -- what it was given of payloads, if it keeps a list of that
+  pub seen : Option (List Seen)
   -- whether it has asked to stop, which it never takes back
   pub has_stopped : Bool
   -- which transactions it still waits for, if it says so

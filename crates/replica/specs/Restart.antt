@@ -13,6 +13,7 @@ use Rattle.sqlite_store.specs.FileStore.{view, recovers}
 use Rattle.sqlite.specs.declared.error.Error.{Error}
 use Rattle.sqlite.specs.State.{HasCleanDisk}
 use Rattle.sqlite.specs.Files.{HoldsDatabase, image_of, file_state, IsCleanLeft}
+use Rattle.gtid.specs.Identifier.{Ids}
 use Rattle.binlog.specs.Filter.{Names}
 use Rattle.store.specs.State.{Content}
 use Rattle.store.specs.Entering.{names_for}
@@ -66,7 +67,7 @@ pub record IsLeftUnopened {D : Type 0} (g : Ghosts D) (only : Names) (before nex
   pub away : IsTurnedAway wanted before why
   pub finds : MayFindUnopened before why next
 
-module _ {D : Type 0} (g : Ghosts D) {F T E : Type 0} (left written : T → Option (List ℕ)) (failures : T → Option (ℕ × ℕ)) (gives : F → Result T E → Type 0) (only names : Names) (history : List ScriptValue) where
+module _ {D : Type 0} (g : Ghosts D) {F T E : Type 0} (left written : T → Option (List ℕ)) (failures : T → Option (ℕ × ℕ)) (gives : F → Ids → Result T E → Type 0) (only names : Names) (history : List ScriptValue) where
   -- A source with this history was followed once into files that were the first image before; the next call may find the
   -- second. What is said of the call is the clause `follows` of `follow_file`.
   pub record Starts (before next : Image) : Type 0 where
@@ -74,8 +75,8 @@ module _ {D : Type 0} (g : Ghosts D) {F T E : Type 0} (left written : T → Opti
     pub connect : F
     pub done : FollowedFile T E D g
     pub follows : (content : Content) → FilesHold only names content before → FollowsFile left written failures (gives connect) settings only names content done
-    -- each stream that is given has a prefix of what the source sends
-    pub sent : (stream : T) → gives connect (Ok stream) → (held : Content) → FilesHold only names held before → IsSent settings.limit names history held (left stream)
+    -- each stream that is given for the executed set of the content that the files held has a prefix of what the source sends
+    pub sent : (stream : T) (held : Content) → gives connect held.executed (Ok stream) → FilesHold only names held before → IsSent settings.limit names history held (left stream)
     pub finds : MayFind done.closed next
 
   -- The stream that was given has all that the source sends, all of it was read, and the connection ended by its bytes.
@@ -85,7 +86,7 @@ module _ {D : Type 0} (g : Ghosts D) {F T E : Type 0} (left written : T → Opti
     pub connection : start.done.connection ≡ Ok (end, counted)
     pub in_full : IsInFull end.reason
     pub nothing_left : left counted.stream ≡ Some []
-    pub all_sent : (stream : T) (gave : gives start.connect (Ok stream)) (held : Content) (hold : FilesHold only names held before) → (start.sent stream gave held hold).more ≡ []
+    pub all_sent : (stream : T) (held : Content) (gave : gives start.connect held.executed (Ok stream)) (hold : FilesHold only names held before) → (start.sent stream held gave hold).more ≡ []
 
   -- Each time the files are what the call before has left, which may have opened the database or not.
   abbrev pub AreStarts : Image → List Image → Type 0

@@ -18,6 +18,7 @@ ghost use Rattle.replica.specs.Conn.{IsOwn};
 ghost use Rattle.replica.specs.Alone.{TakesAlone, IsOwnOrHalted};
 ghost use Rattle.replica.specs.Event.{TakesEvent};
 ghost use Rattle.replica.specs.Noted.{HasNotices, HasNoNotice, asked_about, MayEnd};
+ghost use Rattle.replica.specs.Sees.{SeesEvent, SeesPayload};
 ghost use Rattle.replica.specs.Missing.{waits_for_none};
 ghost use Rattle.replica.specs.Keeps.{KeepsObserved};
 
@@ -69,6 +70,9 @@ fn gather<W: Observer>(
         → IfErr result (EndsDump follow.now es payload.now) }
     ensures may_end { IfErr result IsOwn }
     ensures noticed { HasNoNotice (W.account observer.old) (W.account observer.new) }
+    // The observer is given the event, if one is read, and nothing else.
+    ensures sees { (es : List EventValue) (ds : List DeliveryValue) → Gathers es ds gatherer.old
+        → SeesEvent follow.now es payload.now (W.account observer.old) (W.account observer.new) }
 {
     let [0, body @ ..] = payload else {
         return Err(no_event(alloc, payload));
@@ -115,6 +119,7 @@ fn is_halted<S: Alter, W: Observer>(store: &Store<S>, delivery: &Delivery, obser
         → result ≡ false → waits_for_none (W.account observer.new).waits ≡ false }
     ensures stays { (W.account observer.old).has_stopped ≡ true
         → (W.account observer.new).has_stopped ≡ true }
+    ensures seen { (W.account observer.new).seen ≡ (W.account observer.old).seen }
 {
     if store.executed().contains(delivery.gtid) {
         return false;
@@ -144,6 +149,7 @@ pub(crate) fn apply<S: Alter, W: Observer>(
         → TakesAlone S.Store now (delivery_value delivery.now) store.old store.new result }
     ensures own { IfErr result (λ reason. IsOwnOrHalted reason
         (W.account observer.new).has_stopped) }
+    ensures seen { (W.account observer.new).seen ≡ (W.account observer.old).seen }
 {
     if is_halted(store, delivery, observer) {
         return Err(Reason::Halted);
@@ -169,6 +175,11 @@ pub(crate) fn take_event<S: Alter, W: Observer>(
         → (is : Bool) (now : Content) (es : List EventValue) (ds : List DeliveryValue)
         → Gathers es ds gatherer.old → HoldsAs S.Store is now store.old
         → TakesEvent S.Store is now es ds payload.now store.old store.new gatherer.new result }
+    // The observer is given the event, if one is read; and then the payload with the reason, if it ends the connection and no
+    // transaction; and nothing else.
+    ensures sees { (es : List EventValue) (ds : List DeliveryValue) → Gathers es ds gatherer.old
+        → SeesPayload (names_of S.Store store.old) es payload.now ds gatherer.new
+        (W.account observer.old) (W.account observer.new) result }
 {
     match gather(alloc, gatherer, store.following(), payload, observer) {
         Ok(Some(delivery)) => apply(store, &delivery, observer),

@@ -16,6 +16,7 @@ ghost use Rattle.replica.specs.FollowFile.{Connects, FollowsFile, CountsFailures
 ghost use Rattle.replica.specs.Keeps.{KeepsSinceOpening};
 
 use crate::config::Config;
+use crate::connect::Connect;
 use crate::counted::{Counted, Duplex};
 use crate::end::Ended;
 use crate::file::{Unopened, close_file, open_file};
@@ -35,32 +36,32 @@ pub struct FollowedFile<T, E, D: Disk> {
     pub closed: Result<Files<D>, (Error, FileStore<D>)>,
 }
 
-/// Reports the store as opened, connects, and follows the source over the stream until the connection ends. Without a stream
-/// the store stays as it is.
+/// Reports the store as opened, connects with its executed set, and follows the source over the stream until the connection
+/// ends. Without a stream the store stays as it is.
 fn connect_and_follow<
     T: Duplex + Drop,
     E: Drop,
-    F: FnOnce() -> Result<T, E> + Drop,
+    C: Connect<Stream = T, Error = E> + Drop,
     S: Alter,
     W: Observer,
 >(
     alloc: Global,
     store: &mut Store<S>,
     config: Config,
-    connect: F,
+    connect: C,
     observer: &mut W,
 ) -> Result<(Ended, Counted<T>), E>
-    requires { F.IsAlwaysCallable connect }
     ensures connects { HasCleanDisk (database S.Store store.new) → (was : Bool) (old : Content)
         → HoldsAs S.Store was old store.old → Connects S.Store T.Read.remaining T.Write.contents
-        T.failures (F.post connect) config store.old store.new was old result }
+        T.failures (C.gives connect) config store.old store.new was old result }
     ensures counts { IfOk result (λ done. CountsFailures done.0 done.1) }
     ensures asked { IfOk result (λ done. IsAsked done.0.reason (W.account observer.new)) }
     ensures keeps { KeepsSinceOpening S.Store store.old store.new (W.account observer.old)
         (W.account observer.new) [] }
 {
-    observer.opened(store.executed());
-    match connect() {
+    let executed = store.executed();
+    observer.opened(executed);
+    match connect.connect(executed) {
         Ok(stream) => {
             observer.connected();
             let mut counted = Counted::new(stream);
@@ -72,14 +73,14 @@ fn connect_and_follow<
 }
 
 /// Opens the database in a file, connects to a source, follows it until the connection ends, and closes the database. The
-/// database is opened before anything is asked of the source.
+/// database is opened before anything is asked of the source, which is reached with its executed set.
 ///
 /// `start` stands for what the files held before (see [`open_file`]).
 pub fn follow_file<
     P: Start,
     T: Duplex + Drop,
     E: Drop,
-    F: FnOnce() -> Result<T, E> + Drop,
+    C: Connect<Stream = T, Error = E> + Drop,
     W: Observer,
 >(
     rt: &HostRuntime,
@@ -87,16 +88,16 @@ pub fn follow_file<
     start: P,
     only: Option<&Follow>,
     config: Config,
-    connect: F,
+    connect: C,
     observer: &mut W,
 ) -> Result<FollowedFile<T, E, FileFrom<P>>, Unopened<FileFrom<P>>>
-    requires { F.IsAlwaysCallable connect }
-    // If the files held a database that stands for a content, or none was there, the end is that of following the source
-    // from that content over the stream that `connect` gave, and the closed files hold a database that stands for the
-    // content that this leads to. If it gave none, they hold the content from before.
+    // If the files held a database that stands for a content, or none was there, `connect` was given the executed set of
+    // that content, so the database was opened first. The end is that of following the source from that content over the
+    // stream that it gave, and the closed files hold a database that stands for the content that this leads to. If it gave
+    // none, they hold the content from before.
     ensures follows { IfOk result (λ done. (names : Names) (content : Content)
         → FilesHold (names_for (wanted_of only.entry)) names content (image_at P.Start)
-        → FollowsFile T.Read.remaining T.Write.contents T.failures (F.post connect) config
+        → FollowsFile T.Read.remaining T.Write.contents T.failures (C.gives connect) config
         (names_for (wanted_of only.entry)) names content done) }
     // Such a database was made for the given tables; any other whose tables are known stood for a content too. Why the files
     // could not be closed is what they met.

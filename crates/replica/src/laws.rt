@@ -41,6 +41,7 @@ ghost use Rattle.replica.specs.Feed.{Line, open_line, Reader, at_first, read_lin
 ghost use Rattle.replica.specs.Restart.{Starts, IsUncut, MayFindUnopened, AreStarts, HoldFirst, FilesNeverFall};
 ghost use Rattle.replica.specs.Resume.{Resumes, Leads, Reaches, AreRestarts, NeverFalls, part_changes, transaction, transactions, end_reason};
 
+use crate::connect::Connect;
 use crate::counted::Duplex;
 use crate::file::Unopened;
 use crate::session::Session;
@@ -258,19 +259,21 @@ pub fn restarted()
 /// before has left, as it was closed or after a crash, and opens it or not. However often it is started, and wherever
 /// each connection is cut, the files hold the content after the first transactions of the history, and of these there are
 /// never fewer than before. A connection that is not cut leaves the content after all of them.
-pub fn restarted_files<D: Disk, T: Duplex + Drop, E: Drop, F: FnOnce() -> Result<T, E> + Drop>(
-    _files: &Files<D>,
-    _connect: &F,
-)
+pub fn restarted_files<
+    D: Disk,
+    T: Duplex + Drop,
+    E: Drop,
+    C: Connect<Stream = T, Error = E> + Drop,
+>(_files: &Files<D>, _connect: &C)
     ensures never_falls { (only names : Names) (history : List ScriptValue) (j : ℕ) (held : Content)
         (before : Image) (images : List Image) → Reaches names history j held
         → FilesHold only names held before → AreStarts D.Disk T.Read.remaining T.Write.contents
-        T.failures F.post only names history before images
+        T.failures C.gives only names history before images
         → FilesNeverFall only names history j images }
     ensures whole { (only names : Names) (history : List ScriptValue) (j : ℕ) (held : Content)
         (before next : Image) → Reaches names history j held → FilesHold only names held before
-        → (start : Starts D.Disk T.Read.remaining T.Write.contents T.failures F.post only names
-        history before next) → IsUncut D.Disk T.Read.remaining T.Write.contents T.failures F.post
+        → (start : Starts D.Disk T.Read.remaining T.Write.contents T.failures C.gives only names
+        history before next) → IsUncut D.Disk T.Read.remaining T.Write.contents T.failures C.gives
         only names history before next start → HoldFirst only names history next (length history) }
 {
     greet::laws::dumps();

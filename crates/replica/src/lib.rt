@@ -9,14 +9,14 @@
 //!
 //! Over a database file, [`replay`] opens it, reads a list of [`Capture`]s, each a connection from a reader, and closes
 //! it, and [`follow_file`] does so with a source that is followed over a stream of two directions, such as a socket
-//! ([`Duplex`]); [`change_file`] applies transactions that come from no connection ([`Deliveries`]), [`load_file`] those of
-//! a [`FirstCopy`] of tables, if it may be loaded, [`clear_file`] takes all rows of one table out, [`adopt_file`] adds a set
-//! to the executed one, and [`list_file`] reads the set, the filter and the rows ([`Lister`]). [`open_file`] and
-//! [`close_file`] are their first and their last step. An [`Observer`]
-//! is called with what is read and applied, and may stop it; [`Until`] is one that stops once nothing of a set of GTIDs is
-//! missing. Over a store, [`run`] reads a list of connections that are in memory, one after the other, [`read_stream`] one
-//! connection from a reader, and [`follow`] follows a source: it sends all pending output before each read, until the
-//! connection ends.
+//! ([`Duplex`]), and that is reached once the database is open ([`Connect`]); [`change_file`] applies transactions that
+//! come from no connection ([`Deliveries`]), [`load_file`] those of a [`FirstCopy`] of tables, if it may be loaded,
+//! [`clear_file`] takes all rows of one table out, [`adopt_file`] adds a set to the executed one, and [`list_file`] reads
+//! the set, the filter and the rows ([`Lister`]). [`open_file`] and [`close_file`] are their first and their last step. An
+//! [`Observer`] is called with what is read and applied, and may stop it; [`Until`] is one that stops once nothing of a
+//! set of GTIDs is missing. Over a store, [`run`] reads a list of connections that are in memory, one after the other,
+//! [`read_stream`] one connection from a reader, and [`follow`] follows a source: it sends all pending output before each
+//! read, until the connection ends.
 //!
 //! All of them borrow the store, so that it can be used for the next connection. After an end with `Reason::Database`
 //! the store has failed and must be opened again; after `Reason::Memory` it may have. A connection that is cut short
@@ -33,6 +33,7 @@ mod changing;
 mod cleared_file;
 mod clearing;
 mod config;
+mod connect;
 mod connections;
 mod counted;
 mod deliveries;
@@ -65,6 +66,7 @@ pub use changing::ChangeEnd;
 pub use cleared_file::{ClearedFile, clear_file};
 pub use clearing::ClearEnd;
 pub use config::{Config, ConfigFault};
+pub use connect::Connect;
 pub use connections::{NoMemory, run};
 pub use counted::{Counted, Duplex};
 pub use deliveries::Deliveries;

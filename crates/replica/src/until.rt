@@ -108,6 +108,7 @@ impl<W> Until<W> {
 impl<W: Observer> Observer for Until<W> {
     ghost account = { λ u. record {
       noted = if u.is_apart then None else (W.account u.inner).noted;
+      seen = (W.account u.inner).seen;
       has_stopped = is_over u.missing || (W.account u.inner).has_stopped;
       waits = u.missing;
     } };

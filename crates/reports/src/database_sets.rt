@@ -1,28 +1,32 @@
 //! The executed set of a database, and what of a set it has not executed.
 
-ghost use Rattle.std.specs.Prelude.{◌≡◌, None};
+ghost use Rattle.std.specs.Prelude.{◌≡◌};
+ghost use Rattle.std.specs.FinSet as set;
 
 use binlog::Follow;
 use gtid::GtidSet;
 use replica::{Lister, NoMemory};
+use std::alloc::Global;
 use store::{Listed, Visitor};
 
 /// Keeps a copy of the executed set of a database that it is given.
 #[derive(Drop)]
 pub struct ExecutedSet {
-    found: Option<GtidSet>,
+    found: GtidSet,
 }
 
 impl ExecutedSet {
-    /// It was given no database.
-    pub fn new() -> ExecutedSet
-        ensures { result.found ≡ None }
+    /// It was given no database: the set is empty.
+    pub fn new(alloc: Global) -> ExecutedSet
+        ensures { result.found ≡ set.empty }
     {
-        ExecutedSet { found: None }
+        ExecutedSet {
+            found: GtidSet::new(alloc),
+        }
     }
 
-    /// The executed set; none if it was given no database.
-    pub fn found(self) -> Option<GtidSet>
+    /// The executed set.
+    pub fn found(self) -> GtidSet
         ensures { result ≡ self.found }
     {
         let ExecutedSet { found } = self;
@@ -49,7 +53,7 @@ impl Lister for ExecutedSet {
         let Ok(found) = executed.copy() else {
             return Err(NoMemory);
         };
-        self.found = Some(found);
+        self.found = found;
         Ok(false)
     }
 }

@@ -2,6 +2,7 @@
 
 ghost use Rattle.std.specs.Prelude.{◌≡◌, true, is_some, None};
 
+use binlog::Event;
 use files::FileFault;
 use formats::text_of;
 use gather::Delivery;
@@ -55,7 +56,12 @@ impl<'a> SkipWatch<'a> {
 }
 
 impl Observer for SkipWatch<'_> {
-    ghost account = { λ w. record { noted = None; has_stopped = is_some w.stop; waits = None } };
+    ghost account = { λ w. record {
+      noted = None;
+      seen = None;
+      has_stopped = is_some w.stop;
+      waits = None;
+    } };
 
     fn opened(&mut self, executed: &GtidSet) {
         if self.feed.is_none() {
@@ -66,6 +72,8 @@ impl Observer for SkipWatch<'_> {
             Err(_) => self.stop = Some(SkipError::File(FileFault::Memory)),
         }
     }
+
+    fn event(&mut self, _event: &Event<'_>, _bytes: &[u8], _pending: usize) {}
 
     fn before_apply(&mut self, delivery: &Delivery) -> bool {
         if self.stop.is_some() {
@@ -89,6 +97,8 @@ impl Observer for SkipWatch<'_> {
             self.stop = Some(error);
         }
     }
+
+    fn refused(&mut self, _payload: &[u8], _reason: &Reason) {}
 
     fn ended(&mut self, _end: &Ended) -> bool {
         self.stop.is_none()

@@ -261,7 +261,12 @@ impl<'a, O: Write, E: Write> Watch<'a, O, E> {
 }
 
 impl<'a, O: Write, E: Write> Observer for Watch<'a, O, E> {
-    ghost account = { λ w. record { noted = None; has_stopped = is_some w.stop; waits = None } };
+    ghost account = { λ w. record {
+      noted = None;
+      seen = None;
+      has_stopped = is_some w.stop;
+      waits = None;
+    } };
 
     fn opened(&mut self, executed: &GtidSet) {
         self.pulse.opened(executed);

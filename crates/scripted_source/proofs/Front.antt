@@ -1,7 +1,7 @@
 -- A payload at the front of bytes that a replica sent.
-use Rattle.std.proofs.Common.{◌≡◌, ℕ, true, false, List, [], ◌++◌, length, take, drop, refl, sym, ap, subst, ◌∙◌}
+use Rattle.scripted_source.proofs.Names.{◌≡◌, ℕ, true, false, List, [], ◌++◌, length, refl, sym, ap, subst, ◌∙◌, false≢true, Memory, TakesPayload}
+use Rattle.std.proofs.Common.{take, drop}
 use Rattle.std.proofs.Math.Seq.{take-append_seam}
-use Rattle.std.proofs.lemmas.Bool.{false≢true}
 use Rattle.std.proofs.lemmas.List.{take-append-drop}
 use Rattle.wire.specs.Payload.{ReaderState, IsWholePayload, IsUnfinished, IsOutOfSequence, IsTooLarge}
 use Rattle.wire.specs.declared.fault.WireFault.{WireFault}
@@ -9,8 +9,7 @@ use Rattle.wire.specs.declared.fault.WireFault.TheVariants as wire
 use Rattle.wire.specs.Packet.{largest_payload}
 use Rattle.wire.proofs.OnePacking.{none_begins}
 use Rattle.wire.proofs.OneReading.{wrong_or_whole, large_or_whole}
-use Rattle.scripted_source.specs.declared.fault.ForgeFault.TheVariants.{Memory}
-use Rattle.scripted_source.specs.Source.{TakesPayload, packets_fault}
+use Rattle.scripted_source.specs.Source.{packets_fault}
 
 abbrev start : ℕ → ReaderState
 start id = record { limit = largest_payload; due = id; held = []; ended = false }

@@ -1,4 +1,5 @@
 pub mod Front
+mod Names
 pub mod Opens
 pub mod Packings
 pub mod OneAnswer

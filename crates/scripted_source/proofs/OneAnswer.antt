@@ -5,7 +5,7 @@ use Rattle.wire.proofs.OnePacking.{one_packing}
 use Rattle.greet.specs.Message.{DumpValue, IsDump}
 use Rattle.gtid.specs.Identifier.{Ids}
 use Rattle.gtid.specs.Encoding.{IsEncoding}
-use Rattle.gtid.proofs.Decoded.{one_front}
+use Rattle.gtid.proofs.GroupSets.{one_front}
 use Rattle.scripted_source.specs.declared.fault.ForgeFault.{ForgeFault}
 use Rattle.scripted_source.specs.declared.fault.ForgeFault.TheVariants.{Request, Unfit, TooLarge, Memory}
 use Rattle.scripted_source.specs.Script.{PartValue, ScriptValue}

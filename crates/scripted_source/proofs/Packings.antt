@@ -19,8 +19,8 @@ use Rattle.binlog.specs.Writing.{IsWritable, plain_rows, header_bytes, framed_by
 use Rattle.binlog.specs.declared.body.rows_event.RowsKind.{RowsKind}
 use Rattle.binlog.specs.declared.body.rows_event.RowsKind.TheVariants.{Write, Update, Delete}
 use Rattle.binlog.proofs.PlainRows.{of_ranges}
-use Rattle.binlog.proofs.MapWritten.{suits, spelled}
-use Rattle.binlog.proofs.Written.{map_of}
+use Rattle.binlog.proofs.TableMapBytes.{suits, spelled}
+use Rattle.binlog.proofs.EventBytes.{map_of}
 use Rattle.scripted_source.specs.declared.script.Part.{Part}
 use Rattle.scripted_source.specs.declared.script.Script.{Script}
 use Rattle.scripted_source.specs.declared.fault.ForgeFault.{ForgeFault}

@@ -1,25 +1,18 @@
 -- Rows that are added in another order.
-use Rattle.std.proofs.Common.{Bor, Result, IfOk, IsTrue, Err, ◌≡◌, ◌+◌, ◌<◌, ◌≤◌, nat_lt, ℕ, zero, suc, Bool, true, false, cond, inl, inr, List, [], ◌∷◌, ◌++◌, map, take, length, get_or, None, Ok, refl, sym, ap, subst, ◌∙◌, append_assoc, append-nil, arith}
-use Rattle.std.specs.List.{AllByRecursion, All, sum_by}
-use Rattle.std.specs.List.Sorted.{IsPermutation}
-use Rattle.std.proofs.lemmas.Bool.{cases_Bool, and_parts, ltb-true}
-use Rattle.std.proofs.lemmas.List.{map-append, take_more, take_all}
+use Rattle.store.proofs.Names.{Bor, Result, IfOk, IsTrue, Err, ◌≡◌, ◌+◌, ◌<◌, ◌≤◌, nat_lt, ℕ, zero, suc, Bool, true, false, cond, inl, inr, List, [], ◌∷◌, ◌++◌, map, take, length, None, Ok, refl, sym, ap, subst, ◌∙◌, append_assoc, append-nil, arith, AllByRecursion, IsPermutation, cases_Bool, and_parts, ltb-true, map-append, IsPermutation-map, bytes_eq-Decides, Database, State, IsUnchanged, CellValue, Names, image, HasImage, IsSomeImage, most, AreDone, Key, same_key, KeyCounts, with_one, bag_of, count, held_rows, span_rows, Adds, added, Counted, AddsRows}
+use Rattle.std.proofs.Common.{get_or}
+use Rattle.std.specs.List.{All, sum_by}
+use Rattle.std.proofs.lemmas.List.{take_more, take_all}
 use Rattle.std.proofs.lemmas.List.Elements.{All-from_recursion, recursion_from_All}
 use Rattle.std.proofs.lemmas.List.Sums.{sum_by-cons}
-use Rattle.std.proofs.lemmas.List.Sorted.{sum_by-IsPermutation, IsPermutation-map, All-permutation}
-use Rattle.std.proofs.lemmas.Slice.Eq.{bytes_eq-Decides}
-use Rattle.sqlite.specs.Effect.{Database}
-use Rattle.sqlite.specs.State.{State, IsUnchanged}
-use Rattle.binlog.specs.Cell.{CellValue}
-use Rattle.binlog.specs.Filter.{Names, admits}
-use Rattle.gather.specs.Image.{image, HasImage, IsSomeImage}
+use Rattle.std.proofs.lemmas.List.Sorted.{sum_by-IsPermutation, All-permutation}
+use Rattle.binlog.specs.Filter.{admits}
 use Rattle.gather.specs.Transaction.{ChangeValue, insert}
-use Rattle.store.specs.Changes.{most, AreDone}
-use Rattle.store.specs.Rows.{Key, key_of, same_key, KeyCounts, with_one, bag_of, count, held_rows, span_rows}
-use Rattle.store.specs.Inside.{Raises, Adds, added, Counted}
-use Rattle.store.specs.AnyOrder.{AddsRow, AddsRows, AreInserts, images_in, keys_in}
+use Rattle.store.specs.Rows.{key_of}
+use Rattle.store.specs.Inside.{Raises}
+use Rattle.store.specs.AnyOrder.{AddsRow, AreInserts, images_in, keys_in}
 use Rattle.store.specs.declared.inserts.SortedInserts.{SortedInserts}
-use Rattle.store.proofs.Made.{goes_since}
+use Rattle.store.proofs.BetweenCalls.{goes_since}
 use Rattle.store.proofs.Bags.{own_key, is_added, goes_after}
 
 -- ---- how often a key is among them

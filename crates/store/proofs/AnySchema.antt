@@ -1,44 +1,29 @@
 -- What the statements mean, in any schema in which the table's name finds it.
-use Rattle.std.proofs.Common.{◌≡◌, ◌<◌, ℕ, Bool, false, true, List, [], ◌∷◌, codes, Ok, Some, None, refl, ap, arith}
-use Rattle.sqlite_value.specs.declared.keys.Collation.TheVariants.{Binary}
-use Rattle.sqlite_sql.specs.declared.ops.BinaryOp.TheVariants.{Compare}
-use Rattle.sqlite_sql.specs.declared.ops.CompareOp.TheVariants.{Eq}
+use Rattle.store.proofs.Names.{◌≡◌, ◌<◌, ℕ, Bool, false, true, List, [], ◌∷◌, codes, Ok, Some, None, refl, ap, arith, Binary, Compare, Eq, Term, col, op2, Table, Schema, Select, Insert, Update, Values, Expr, Core, Parsed, Carried, Output, Command, nothing, max_budget, Name, Context, lower, with_command, IsPlain, command_of, held, spans, read_text, insert_text, insert_eight_text, update_text, delete_text, add_span_text, drop_span_text, set_end_text, has_key, has_count, has_start, IsFound}
 use Rattle.sqlite_sql.specs.declared.ops.UnaryOp.TheVariants.{ToNumeric}
-use Rattle.sqlite_sql.specs.Term.{Term, col, op1, op2}
-use Rattle.sqlite_schema.specs.declared.schema.Table.{Table}
-use Rattle.sqlite_schema.specs.declared.schema.Schema.{Schema}
+use Rattle.sqlite_sql.specs.Term.{op1}
 use Rattle.sqlite_schema.specs.declared.schema.Kind.TheVariants.{Integer, Any}
-use Rattle.sqlite_schema.specs.declared.command.Command.TheVariants.{Select, Insert, Update, Delete}
-use Rattle.sqlite_schema.specs.declared.command.Source.TheVariants.{Values}
+use Rattle.sqlite_schema.specs.declared.command.Command.TheVariants.{Delete}
 use Rattle.sqlite_schema.specs.Names.{same_name}
-use Rattle.sqlite_ast.specs.declared.Expr.{Expr}
 use Rattle.sqlite_ast.specs.declared.Expr.TheVariants as e
 use Rattle.sqlite_ast.specs.declared.Binary.TheVariants.{And}
-use Rattle.sqlite_ast.specs.declared.Core.{Core, roll-Core}
+use Rattle.sqlite_ast.specs.declared.Core.{roll-Core}
 use Rattle.sqlite_ast.specs.declared.Select as select
 use Rattle.sqlite_ast.specs.declared.Rows.TheVariants as rows
 use Rattle.sqlite_ast.specs.declared.Conflict.TheVariants.{Abort}
 use Rattle.sqlite_ast.specs.declared.Statement.TheVariants as written
-use Rattle.sqlite_syntax.specs.declared.statement.Parsed.{Parsed}
-use Rattle.sqlite_resolve.specs.declared.state.Carried.{Carried}
-use Rattle.sqlite_resolve.specs.declared.scope.Output.{Output}
 use Rattle.sqlite_resolve.specs.declared.write.NewRows.TheVariants as new
-use Rattle.sqlite_schema.specs.declared.command.Command.{Command}
-use Rattle.sqlite_resolve.specs.Lowering.{nothing, max_budget}
-use Rattle.sqlite_resolve.specs.Scope.{Name, Context, declared}
+use Rattle.sqlite_resolve.specs.Scope.{declared}
 use Rattle.sqlite_resolve.specs.Compare.{converted, may_be_text, is_parameter}
 use Rattle.sqlite_resolve.specs.Body.{tests}
 use Rattle.sqlite_resolve.specs.Order.{sorts}
-use Rattle.sqlite_resolve.specs.Expr.{lower}
 use Rattle.sqlite_resolve.specs.Program.{query}
 use Rattle.sqlite_resolve.specs.Write.{inserted, assigned, row}
-use Rattle.sqlite_resolve.specs.Compile.{first, compiled, with_command}
+use Rattle.sqlite_resolve.specs.Compile.{first, compiled}
 use Rattle.sqlite_tied.specs.Compute.{everything}
 use Rattle.sqlite.specs.Listing.{understood, reads_listing}
-use Rattle.sqlite.proofs.Callers.{IsPlain, command_of}
-use Rattle.store.specs.Layout.{required, held, spans, read_text, insert_text, insert_eight_text, update_text, delete_text, add_span_text, drop_span_text, set_end_text, equals, has_key, has_count, has_start, read_query, delete_query, update_query, insert_terms, insert_eight_terms, add_span_terms, drop_span_query, set_end_query}
-use Rattle.store.specs.Layout.{IsFound}
-use Rattle.store.proofs.Compiling.{written_trees, only_over, only_bound, after_reading, less, stands_for_column, Compares, compares, is_given, Field, IsField, written_columns, with_outputs, outputs_are, tests_are, lowered_both, lowered_all, lowered_four, from_table, IsOver, IsOrdered, drafted, program_is, query_is, compiled_select, compiled_insert, compiled_update, compiled_delete, understood_as}
+use Rattle.store.specs.Layout.{required, equals, read_query, delete_query, update_query, insert_terms, insert_eight_terms, add_span_terms, drop_span_query, set_end_query}
+use Rattle.store.proofs.Compiler.{written_trees, only_over, only_bound, after_reading, less, stands_for_column, Compares, compares, is_given, Field, IsField, written_columns, with_outputs, outputs_are, tests_are, lowered_both, lowered_all, lowered_four, from_table, IsOver, IsOrdered, drafted, program_is, query_is, compiled_select, compiled_insert, compiled_update, compiled_delete, understood_as}
 
 -- What a text means under the schema: this command, whose rows are no answer, and no query on sqlite_schema.
 pub record Means (schema : Schema) (text : List ℕ) (c : Command) : Type 0 where

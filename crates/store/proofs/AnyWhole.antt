@@ -1,38 +1,26 @@
 -- What the texts mean that ask for whole tables, in any schema in which the table's name finds it.
-use Rattle.std.proofs.Common.{◌≡◌, ◌<◌, inl, inr, ℕ, zero, suc, slice_get, Bool, false, true, List, [], ◌∷◌, map, length, codes, Ok, Some, None, refl, ap, ◌∙◌, arith}
-use Rattle.std.specs.List.{AllByRecursion}
+use Rattle.store.proofs.Names.{◌≡◌, ◌<◌, inl, inr, ℕ, zero, suc, slice_get, Bool, false, true, List, [], ◌∷◌, map, length, codes, Ok, Some, None, refl, ap, ◌∙◌, arith, AllByRecursion, Binary, Term, col, Table, Column, Schema, Select, Core, Parsed, Carried, Output, nothing, max_budget, Name, Context, meta, held, spans, follow, AsksAll, all_meta_text, all_held_text, listed_text, IsFound}
 use Rattle.sqlite_rules.specs.Lists.{Has}
-use Rattle.sqlite_value.specs.declared.keys.Collation.TheVariants.{Binary}
 use Rattle.sqlite_value.specs.Keys.{ascending}
-use Rattle.sqlite_sql.specs.Term.{Term, col}
-use Rattle.sqlite_schema.specs.declared.schema.Table.{Table}
-use Rattle.sqlite_schema.specs.declared.schema.Column.{Column}
-use Rattle.sqlite_schema.specs.declared.schema.Schema.{Schema}
 use Rattle.sqlite_schema.specs.declared.schema.Kind.TheVariants.{Any}
-use Rattle.sqlite_schema.specs.declared.command.Command.TheVariants.{Select}
 use Rattle.sqlite_schema.specs.Names.{same_name}
-use Rattle.sqlite_ast.specs.declared.Core.{Core, roll-Core, out-Core}
+use Rattle.sqlite_ast.specs.declared.Core.{roll-Core, out-Core}
 use Rattle.sqlite_ast.specs.declared.Select as select
 use Rattle.sqlite_ast.specs.declared.Statement.TheVariants as written
-use Rattle.sqlite_syntax.specs.declared.statement.Parsed.{Parsed}
-use Rattle.sqlite_resolve.specs.declared.state.Carried.{Carried}
-use Rattle.sqlite_resolve.specs.declared.scope.Output.{Output}
-use Rattle.sqlite_resolve.specs.Lowering.{nothing, max_budget, alone}
+use Rattle.sqlite_resolve.specs.Lowering.{alone}
 use Rattle.sqlite_schema.specs.Names.{column_named, place_of}
 use Rattle.sqlite_typing.specs.Types.{row_classes, are_typed}
 use Rattle.sqlite_sql.specs.Term.{reads_below}
 use Rattle.sqlite_value.specs.declared.keys.Key.{Key}
 use Rattle.sqlite_resolve.specs.declared.state.State.{State}
-use Rattle.sqlite_resolve.specs.Scope.{Name, Context, is_rowid, alias_of, declared}
+use Rattle.sqlite_resolve.specs.Scope.{is_rowid, alias_of, declared}
 use Rattle.sqlite_resolve.specs.Program.{query}
 use Rattle.sqlite_resolve.specs.Compile.{first}
 use Rattle.sqlite_tied.specs.Compute.{everything}
-use Rattle.store.specs.Layout.{required, meta, executed, held, spans, follow}
-use Rattle.store.specs.Load.{AsksAll, IsFilled, columns_from, whole, all_meta_text, all_held_text, all_spans_text, all_follow_text, all_executed_text}
-use Rattle.store.specs.Listing.{listed_text}
-use Rattle.store.specs.Layout.{IsFound}
+use Rattle.store.specs.Layout.{required, executed}
+use Rattle.store.specs.Load.{IsFilled, columns_from, whole, all_spans_text, all_follow_text, all_executed_text}
 use Rattle.store.proofs.AnySchema.{Means, means}
-use Rattle.store.proofs.Compiling.{only_over, only_bound, after_reading, less, carried_last, with_keys, stands_for_column, stands_for_rowid, Field, IsField, written_columns, written_order, with_outputs, outputs_are, keys_are, no_tests, from_table, IsOver, IsOrdered, drafted, program_is, query_is, compiled_select}
+use Rattle.store.proofs.Compiler.{only_over, only_bound, after_reading, less, carried_last, with_keys, stands_for_column, stands_for_rowid, Field, IsField, written_columns, written_order, with_outputs, outputs_are, keys_are, no_tests, from_table, IsOver, IsOrdered, drafted, program_is, query_is, compiled_select}
 
 -- ---- The texts as they are written.
 

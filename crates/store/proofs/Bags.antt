@@ -1,21 +1,15 @@
 -- From the counts of keys to the bag of rows.
-use Rattle.std.proofs.Common.{◌≡◌, ◌≢◌, inl, inr, ◌+◌, ◌-◌, ◌<◌, ◌≤◌, ◌^◌, nat_lt, ℕ, List, [], ◌∷◌, length, true, false, cond, Some, None, Option, Ok, Err, Result, IfOk, refl, sym, ap, ◌∙◌, arith}
-use Rattle.std.specs.List.{AllByRecursion, list_all}
-use Rattle.std.proofs.lemmas.Bool.{cases_Bool, and_parts, and_from, lt-ltb, ltb-true, le-leb, leb-true, false_from_ne_true}
-use Rattle.std.proofs.lemmas.Bool.Decides.{nat_tests}
-use Rattle.std.proofs.lemmas.Slice.Eq.{bytes_eq-Decides}
-use Rattle.sqlite.specs.State.{State}
-use Rattle.binlog.specs.Cell.{CellValue, null_cell, number_cell, bytes_cell}
-use Rattle.gather.specs.Image.{IsImage, HasImage, HasCellImage, image}
+use Rattle.store.proofs.Names.{◌≡◌, ◌≢◌, inl, inr, ◌+◌, ◌-◌, ◌<◌, ◌≤◌, ◌^◌, nat_lt, ℕ, List, [], ◌∷◌, length, true, false, cond, Some, None, Option, Ok, Err, Result, IfOk, refl, sym, ap, ◌∙◌, arith, AllByRecursion, list_all, cases_Bool, and_parts, and_from, lt-ltb, ltb-true, le-leb, leb-true, false_from_ne_true, nat_tests, bytes_eq-Decides, State, CellValue, IsImage, HasImage, image, Refusal, row_of, has_image, most, Key, same_key, KeyCounts, with_one, without_one, bag_of, count, held_rows, added, Counted}
+use Rattle.binlog.specs.Cell.{null_cell, number_cell, bytes_cell}
+use Rattle.gather.specs.Image.{HasCellImage}
 use Rattle.gather.specs.Transaction.{insert, delete}
 use Rattle.gather.proofs.WholeImages.{one_list}
-use Rattle.store.specs.declared.row_change.Refusal.{Refusal}
 use Rattle.store.specs.declared.row_change.Refusal.TheVariants.{NoSuchRow, CountFull}
-use Rattle.store.specs.State.{TableRow, row_of, has_image, has_cell_image}
-use Rattle.store.specs.Changes.{most, IsAdded, IsRemoved}
-use Rattle.store.specs.Rows.{Key, key_of, key_for, same_key, KeyCounts, with_one, without_one, bag_of, count, held_rows}
-use Rattle.store.specs.Inside.{Goes, added, removed, Counted, Makes}
-use Rattle.store.proofs.Made.{goes_then}
+use Rattle.store.specs.State.{TableRow, has_cell_image}
+use Rattle.store.specs.Changes.{IsAdded, IsRemoved}
+use Rattle.store.specs.Rows.{key_of, key_for}
+use Rattle.store.specs.Inside.{Goes, removed, Makes}
+use Rattle.store.proofs.BetweenCalls.{goes_then}
 
 -- ---- which cells have an image
 

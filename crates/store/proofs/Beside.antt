@@ -1,26 +1,17 @@
 -- A schema with one table more.
-use Rattle.std.proofs.Common.{◌≡◌, ◌≢◌, ◌⊎◌, ◌<◌, ◌+◌, ◌^◌, ◌==◌, ◌&&◌, ◌||◌, not, max, inl, inr, ℕ, zero, suc, Bool, true, false, cond, is_some, Option, Some, None, List, [], ◌∷◌, ◌++◌, length, find, fold, slice_get, codes, refl, sym, ap, subst, ◌∙◌, arith}
+use Rattle.store.proofs.Names.{◌≡◌, ◌≢◌, ◌⊎◌, ◌<◌, ◌+◌, ◌^◌, ◌==◌, ◌&&◌, ◌||◌, not, inl, inr, ℕ, zero, suc, Bool, true, false, cond, is_some, Option, Some, None, List, [], ◌∷◌, ◌++◌, length, slice_get, codes, refl, sym, ap, subst, ◌∙◌, arith, option_and_then, IfSome, false≢true, Reference, parent_key, AllByRecursion, position_from, list_any, ne_eqb, eq-eqb, list_any-append, Table, Index, Schema, table_named, created, next_tree, past_views, table_below, lacks_sequence, meta, held, spans, follow, meta_tree, held_tree, spans_tree, follow_tree, IsFound, HasTable, IsApart, IsLaidOut, IsVacant, with_tables}
+use Rattle.std.proofs.Common.{max, find, fold}
 use Rattle.std.specs.Option.{option_or, option_map}
-use Rattle.std.specs.Prelude.{option_and_then, IfSome}
-use Rattle.std.proofs.lemmas.Bool.{false≢true}
 use Rattle.sqlite_value.specs.declared.keys.Order.{Order}
-use Rattle.sqlite_schema.specs.declared.schema.Reference.{Reference}
-use Rattle.sqlite_schema.specs.Rules.{ParentKey, parent_key, key_in, key_places, declared_order}
-use Rattle.std.specs.List.{AllByRecursion, position_from, list_any}
-use Rattle.std.proofs.lemmas.Bool.{ne_eqb, eq-eqb}
-use Rattle.std.proofs.lemmas.List.Folds.{find-append, list_any-append}
+use Rattle.sqlite_schema.specs.Rules.{ParentKey, key_in, key_places, declared_order}
+use Rattle.std.proofs.lemmas.List.Folds.{find-append}
 use Rattle.std.proofs.lemmas.List.Sums.{fold-append}
-use Rattle.sqlite_schema.specs.declared.schema.Table.{Table}
-use Rattle.sqlite_schema.specs.declared.schema.Index.{Index}
-use Rattle.sqlite_schema.specs.declared.schema.Schema.{Schema}
-use Rattle.sqlite_schema.specs.Names.{same_name, table_named}
+use Rattle.sqlite_schema.specs.Names.{same_name}
 use Rattle.sqlite_rules.specs.Lists.{Has}
-use Rattle.sqlite_catalog.specs.Change.{created, next_tree, past_views}
-use Rattle.sqlite_catalog.proofs.StepLemmas.{table_below, same_itself}
-use Rattle.sqlite.specs.Does.{lacks_sequence}
+use Rattle.sqlite_catalog.proofs.StepLemmas.{same_itself}
 use Rattle.sqlite.specs.Rows.{sequence}
-use Rattle.store.specs.Layout.{meta, held, spans, follow, tree_named, meta_tree, held_tree, spans_tree, follow_tree, IsFound, HasTable, IsApart, IsLaidOut, IsVacant}
-use Rattle.store.specs.Making.{with_tables, with_meta, with_held, with_spans, new_layout}
+use Rattle.store.specs.Layout.{tree_named}
+use Rattle.store.specs.Making.{with_meta, with_held, with_spans, new_layout}
 
 -- ---- Look-ups in a list with one item more.
 

@@ -1,21 +1,16 @@
 -- What each call on one row of held does, where it succeeds.
-use Rattle.std.proofs.Common.{Bor, ◌≡◌, ◌≢◌, ◌+◌, ◌≤◌, ℕ, ℤ, pos, List, [], ◌∷◌, map, filter, Some, None, true, false, Ok, Err, Result, Bool, IsOk, IfOk, OnOk, refl, sym, ap, subst, nat_lt, ◌∙◌, Option, length, slice_index_or, arith}
-use Rattle.std.specs.List.Sorted.{IsPermutation}
-use Rattle.std.proofs.lemmas.List.Sorted.{length_permutation, IsPermutation-sym}
-use Rattle.sqlite_value.specs.declared.value.Value.TheVariants.{Int}
-use Rattle.sqlite_value.specs.Order.{Row, column}
-use Rattle.sqlite.specs.declared.error.Error.{Error}
+use Rattle.store.proofs.Names.{Bor, ◌≡◌, ◌≢◌, ◌+◌, ◌≤◌, ℕ, ℤ, pos, List, [], ◌∷◌, map, filter, Some, None, true, false, Ok, Err, Result, Bool, IfOk, OnOk, refl, sym, ap, subst, nat_lt, ◌∙◌, Option, length, arith, IsPermutation, IsPermutation-sym, Int, Row, Error, State, ExecutesInside, IsUnchanged, one_permutation, IsLaidOut, read_text, insert_text, insert_eight_text, update_text, delete_text, most, Key, Finds, is_at, has_n, held_rows, count, with_one, without_one, IsWorking, HasCounts}
+use Rattle.std.proofs.Common.{IsOk, slice_index_or}
+use Rattle.std.proofs.lemmas.List.Sorted.{length_permutation}
+use Rattle.sqlite_value.specs.Order.{column}
 use Rattle.sqlite.specs.declared.error.Error.TheVariants.{SqliteFailure}
 use Rattle.sqlite.specs.declared.error.ErrorCode.TheVariants.{ConstraintViolation}
 use Rattle.sqlite_schema.specs.declared.schema.Constraint.TheVariants.{Unique}
 use Rattle.sqlite_trees.specs.declared.error.StoreError.{StoreError}
 use Rattle.sqlite_trees.specs.declared.error.StoreError.TheVariants.{OutOfMemory, Io, Corrupt, Full, Broken, Unstorable}
-use Rattle.sqlite.specs.State.{State, ExecutesInside, Shown, IsUnchanged, store_error}
-use Rattle.sqlite.proofs.Callers.{one_permutation}
-use Rattle.store.specs.Layout.{IsLaidOut, read_text, insert_text, insert_eight_text, update_text, delete_text}
-use Rattle.store.specs.Changes.{most}
-use Rattle.store.specs.Rows.{Key, key_of, Finds, IsCount, is_at, has_n, held_rows, count, with_one, without_one}
-use Rattle.store.specs.Inside.{IsWorking, HasCounts, Inserts, Deletes}
+use Rattle.sqlite.specs.State.{Shown, store_error}
+use Rattle.store.specs.Rows.{key_of, IsCount}
+use Rattle.store.specs.Inside.{Inserts, Deletes}
 use Rattle.store.proofs.Selects.{key_params}
 use Rattle.store.proofs.Keeps.{refused_same}
 use Rattle.store.proofs.Statements.{eight_params, inserts, inserts_eight, deletes, updates, shown_reads, shown_same}

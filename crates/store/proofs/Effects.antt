@@ -1,40 +1,18 @@
 -- What each statement on one row of held makes of the counts.
-use Rattle.std.proofs.Common.{◌≡◌, ◌≢◌, inl, ℕ, nat_lt, ◌&&◌, ◌+◌, ◌≤◌, ℤ, pos, List, [], ◌∷◌, map, filter, find, length, codes, ◌==◌, Option, Some, unwrap_or, Bool, true, false, cond, refl, sym, ap, ap₂, subst, ◌∙◌, arith}
-use Rattle.std.specs.List.{AllByRecursion, list_any}
-use Rattle.std.specs.List.Sorted.{IsPermutation}
+use Rattle.store.proofs.Names.{◌≡◌, ◌≢◌, inl, ℕ, nat_lt, ◌&&◌, ◌+◌, ◌≤◌, ℤ, pos, List, [], ◌∷◌, map, filter, length, codes, ◌==◌, Option, Some, unwrap_or, Bool, true, false, cond, refl, sym, ap, ap₂, subst, ◌∙◌, arith, AllByRecursion, list_any, IsPermutation, and_parts, and_from, lt-ltb, not-true, tied_itself, is_eq, value_cmp_total, Int, Row, rowid, put_row, without_rowid, has_rowid, all-put_row, Edit, edit_of, are_fresh, is_taken, put_all, without_all, Chosen, Given, all_has, has_filtered, has_kept, int_is, Schema, Table, Enforced, Trees, IsSound, IsDatabase, State, one_permutation, IsLaidOut, IsFound, meta_tree, held_tree, spans_tree, follow_tree, meta_at, held_at, follow_at, most, IsSomeImage, Key, IsHeldRow, HasRowids, is_at, has_n, count, with_one, without_one, meta_rows, held_rows, span_rows, IsWorking, StaysOpen, HasCounts, Appear, LiesBeside}
+use Rattle.std.proofs.Common.{find}
 use Rattle.std.proofs.lemmas.List.{nil_from_length}
 use Rattle.std.proofs.lemmas.List.Sorted.{length_permutation}
-use Rattle.std.proofs.lemmas.Bool.{and_parts, and_from, lt-ltb, not-true}
-use Rattle.std.proofs.lemmas.Cmp.{tied_itself}
-use Rattle.std.specs.Ordering.{is_eq}
-use Rattle.sqlite_value.proofs.OrderLemmas.{value_cmp_total}
-use Rattle.sqlite_value.specs.declared.value.Value.TheVariants.{Int}
-use Rattle.sqlite_value.specs.Order.{Row, column, value_cmp}
-use Rattle.sqlite_trees.specs.Tree.{rowid, put_row, without_rowid, has_rowid}
-use Rattle.sqlite_trees.proofs.TreeLemmas.{all-put_row}
+use Rattle.sqlite_value.specs.Order.{column, value_cmp}
 use Rattle.sqlite_rules.specs.Lists.{Has}
-use Rattle.sqlite_rules.specs.Edit.{Edit, Applies, edit_of, are_fresh, is_taken, id_in, put_all, without_all}
+use Rattle.sqlite_rules.specs.Edit.{Applies, id_in}
 use Rattle.sqlite_rules.specs.Calls.{ids_of}
-use Rattle.sqlite_rules.specs.declared.error.Rowids.TheVariants.{Chosen, Given}
-use Rattle.sqlite_rules.proofs.ListLemmas.{all_has, has_filtered, has_kept}
-use Rattle.sqlite_rules.proofs.TableLemmas.{int_is}
-use Rattle.sqlite_schema.specs.declared.schema.Schema.{Schema}
-use Rattle.sqlite_schema.specs.declared.schema.Table.{Table}
-use Rattle.sqlite_schema.specs.declared.schema.Keys.TheVariants.{Enforced}
-use Rattle.sqlite_trees.specs.Tree.{Trees}
-use Rattle.sqlite_catalog.specs.Listing.{IsSound}
 use Rattle.sqlite_schema.specs.Names.{same_name}
-use Rattle.sqlite.specs.Effect.{IsDatabase}
-use Rattle.sqlite.specs.State.{State}
-use Rattle.sqlite.proofs.Callers.{one_permutation}
-use Rattle.store.specs.Layout.{IsLaidOut, IsFound, tree_named, meta_tree, held_tree, spans_tree, follow_tree, meta_at, held_at, spans_at, follow_at}
-use Rattle.store.specs.Changes.{most}
-use Rattle.gather.specs.Image.{IsSomeImage}
-use Rattle.store.specs.Rows.{Key, IsHeldRow, HasRowids, is_at, has_n, count, with_one, without_one, meta_rows, held_rows, span_rows}
-use Rattle.store.specs.Inside.{IsWorking, StaysOpen, HasCounts, Appear, AddsNew, Deletes}
-use Rattle.store.specs.Beside.{LiesBeside, own_names, other_keys}
+use Rattle.store.specs.Layout.{tree_named, spans_at}
+use Rattle.store.specs.Inside.{AddsNew, Deletes}
+use Rattle.store.specs.Beside.{own_names, other_keys}
 use Rattle.store.proofs.Keys.{keys_same}
-use Rattle.store.proofs.Spared.{beside_written, own_found, own_held}
+use Rattle.store.proofs.BesideStays.{beside_written, own_found, own_held}
 use Rattle.store.proofs.AnyWhole.{has_index}
 use Rattle.store.proofs.Statements.{Applied, given_row, cast_int}
 use Rattle.store.proofs.Unique.{one_at, no_clash}

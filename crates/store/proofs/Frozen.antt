@@ -1,26 +1,18 @@
 -- Trees whose SQL is not understood, after one statement.
-use Rattle.std.proofs.Common.{◌≡◌, ◌<◌, ◌≤◌, ◌+◌, ◌%◌, ◌⊎◌, inl, inr, ℕ, pos, Bool, true, false, Some, List, [], ◌∷◌, ◌++◌, filter, find, map, unwrap_or, ◌==◌, ◌||◌, not, refl, sym, ap, subst, ◌∙◌, arith}
-use Rattle.std.specs.List.{list_any}
-use Rattle.std.proofs.lemmas.Bool.Decides.{nat_tests}
-use Rattle.std.proofs.lemmas.Bool.{cases_Bool, and_parts, not-true, true≢false}
-use Rattle.sqlite_value.specs.Order.{Row, column, bytes}
-use Rattle.sqlite_value.specs.declared.value.Value.TheVariants.{Int}
-use Rattle.sqlite_trees.specs.Tree.{rowid, has_rowid}
+use Rattle.store.proofs.Names.{◌≡◌, ◌<◌, ◌≤◌, ◌+◌, ◌⊎◌, inl, inr, ℕ, pos, Bool, true, false, Some, List, [], ◌∷◌, ◌++◌, filter, map, unwrap_or, ◌==◌, ◌||◌, not, refl, sym, ap, subst, ◌∙◌, arith, list_any, nat_tests, cases_Bool, and_parts, not-true, true≢false, Row, Int, rowid, has_rowid, Table, Schema, Index, has_filtered, has_kept, some_from, IsIndexRow, next_tree, created, without_table, Database, IsDatabase, SparesFrozen}
+use Rattle.std.proofs.Common.{◌%◌, find}
+use Rattle.sqlite_value.specs.Order.{column, bytes}
 use Rattle.sqlite_trees.specs.Objects.{catalog_tree, number_in}
 use Rattle.sqlite_trees.specs.Sound as sound
 use Rattle.sqlite_trees.specs.Sound.{Head, head_at, may_follow, are_in_order}
-use Rattle.sqlite_schema.specs.declared.schema.Table.{Table}
 use Rattle.sqlite_schema.specs.declared.schema.View.{View}
-use Rattle.sqlite_schema.specs.declared.schema.Schema.{Schema}
-use Rattle.sqlite_schema.specs.declared.schema.Index.{Index}
 use Rattle.sqlite_rules.specs.Lists.{Has}
-use Rattle.sqlite_rules.proofs.ListLemmas.{has_filtered, has_kept, has_left, has_right, has_either, some_from}
-use Rattle.sqlite_catalog.specs.Listing.{is_table_row, is_index_row, is_view_row, is_foreign_row, IsTableRow, IsIndexRow, IsViewRow}
-use Rattle.sqlite_catalog.specs.Change.{next_tree, created, automatics, without_table}
+use Rattle.sqlite_rules.proofs.ListLemmas.{has_left, has_right, has_either}
+use Rattle.sqlite_catalog.specs.Listing.{is_table_row, is_index_row, is_view_row, is_foreign_row, IsTableRow, IsViewRow}
+use Rattle.sqlite_catalog.specs.Change.{automatics}
 use Rattle.sqlite_catalog.proofs.LayoutLemmas.{zipped_left, zipped_right, row_kind, aside_code, has_own_rowid, same_rowid}
 use Rattle.sqlite_catalog.proofs.SoundLemmas.{names_agree, list_parts}
 use Rattle.sqlite_catalog.proofs.StepLemmas.{same_itself, view_below}
-use Rattle.sqlite.specs.Effect.{Database, IsDatabase, SparesFrozen}
 use Rattle.store.specs.Beside.{IsFrozen}
 
 -- ---- A list of objects has each name once.

@@ -1,12 +1,6 @@
 -- A table that is read after others: what its call says of the state before it is so of the first state.
-use Rattle.std.proofs.Common.{◌≡◌, false, ℕ, List, Ok, Err, Result, refl, sym, ap, subst, ◌∙◌}
-use Rattle.sqlite_value.specs.Order.{Row}
-use Rattle.sqlite.specs.Effect.{Database}
-use Rattle.sqlite.specs.State.{State, HasCleanDisk, IsUnchanged, Survives}
-use Rattle.sqlite.proofs.Callers.{unchanged_then}
-use Rattle.sqlite.proofs.StateLemmas.{survives_then}
-use Rattle.store.specs.declared.fault.StoreFault.{StoreFault}
-use Rattle.store.specs.Load.{AsksAll, Rested, Judges, ReadsAll, LoadsAll}
+use Rattle.store.proofs.Names.{◌≡◌, false, ℕ, List, Ok, Err, Result, refl, sym, ap, subst, ◌∙◌, Row, Database, State, HasCleanDisk, IsUnchanged, Survives, unchanged_then, survives_then, StoreFault, AsksAll, Rested, Judges}
+use Rattle.store.specs.Load.{ReadsAll, LoadsAll}
 use Rattle.store.proofs.Steps.{rested_after, clean_before, first_step, seen_by, fault_by}
 use Rattle.store.proofs.Lives.{over_any, any_then, narrowed}
 

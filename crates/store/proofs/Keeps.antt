@@ -1,19 +1,14 @@
 -- What a call inside a transaction keeps.
-use Rattle.std.proofs.Common.{arith, ◌⊎◌, inl, inr, ℕ, List, Ok, Err, Result, Some, None, Bool, true, false, cond, MatchBool, ◌≢◌, IsOk, IsErr, IfOk, IfErr, OnOk, IsTrue, ◌≡◌, refl, sym, ap, subst, ◌∙◌, MutBor}
+use Rattle.store.proofs.Names.{arith, ◌⊎◌, inl, inr, ℕ, List, Ok, Err, Result, Some, None, Bool, true, false, cond, MatchBool, ◌≢◌, IfOk, IfErr, OnOk, IsTrue, ◌≡◌, refl, sym, ap, subst, ◌∙◌, cases_Bool, Row, Compiled, Error, State, Survives, KeepsCommit, HasCleanDisk, IsUnchanged, IsRolledBack, ExecutesInside, Ghosts, Held, WasOpen, IsPlain, survives_then}
+use Rattle.std.proofs.Common.{IsOk, IsErr, MutBor}
 use Rattle.std.proofs.lemmas.Result.{on_ok_weaker}
-use Rattle.std.proofs.lemmas.Bool.{cases_Bool}
-use Rattle.sqlite_value.specs.Order.{Row}
-use Rattle.sqlite_resolve.specs.declared.compiled.Compiled.{Compiled}
-use Rattle.sqlite.specs.declared.error.Error.{Error}
 use Rattle.sqlite.specs.declared.error.Error.TheVariants.{ExecuteReturnedResults}
 use Rattle.sqlite_trees.specs.declared.error.StoreError.{StoreError}
-use Rattle.sqlite.specs.State.{State, Survives, KeepsCommit, HasCleanDisk, IsUnchanged, IsRolledBack, IsNotRun, FailsToQuery, FailsToShow, IsTooLate, Shown, ShowsRows, ExecutesInside, ExecutesIn, RunsCommand, Fails, shows_rows, store_error, CommitsShowing}
-use Rattle.sqlite_trees.specs.declared.store.Store.{Ghosts}
-use Rattle.sqlite.specs.Held.{Held, state}
+use Rattle.sqlite.specs.State.{IsNotRun, FailsToQuery, FailsToShow, IsTooLate, Shown, ShowsRows, ExecutesIn, RunsCommand, Fails, shows_rows, store_error, CommitsShowing}
+use Rattle.sqlite.specs.Held.{state}
 use Rattle.sqlite.specs.Listing.{understood}
-use Rattle.store.specs.Inside.{WasOpen, Stays}
-use Rattle.sqlite.proofs.Callers.{IsPlain, never_commits}
-use Rattle.sqlite.proofs.StateLemmas.{survives_then}
+use Rattle.store.specs.Inside.{Stays}
+use Rattle.sqlite.proofs.Callers.{never_commits}
 
 pub kept_unchanged : (old new : State) → IsUnchanged old new → KeepsCommit old new
 kept_unchanged old new h = record { was_open = λ _. h.0.was_open; committed = λ _. h.0.committed_is }

@@ -1,12 +1,7 @@
 -- The rows of meta with other keys than `layout`.
-use Rattle.std.proofs.Common.{◌≡◌, Bool, true, false, if◌then◌else◌, is_some, None, List, [], filter, codes, refl, ap₂}
-use Rattle.sqlite_value.specs.Order.{Row}
-use Rattle.sqlite_schema.specs.declared.schema.Schema.{Schema}
-use Rattle.sqlite_schema.specs.Names.{table_named}
-use Rattle.sqlite.specs.Effect.{Database}
-use Rattle.store.specs.Layout.{HasMeta}
-use Rattle.store.specs.Rows.{meta_rows}
-use Rattle.store.specs.Beside.{has_other_key, other_keys}
+use Rattle.store.proofs.Names.{◌≡◌, Bool, true, false, is_some, None, List, [], filter, codes, refl, ap₂, Row, Schema, table_named, Database, HasMeta, meta_rows, has_other_key}
+use Rattle.std.proofs.Common.{if◌then◌else◌}
+use Rattle.store.specs.Beside.{other_keys}
 
 pub keys_same : (old new : Database) → new.schema ≡ old.schema → meta_rows new ≡ meta_rows old → other_keys new ≡ other_keys old
 unfolding other_keys

@@ -1,31 +1,17 @@
 -- Which tables a known schema has, and one reading after another.
-use Rattle.std.proofs.Common.{◌≡◌, ℤ, pos, Bool, true, false, is_some, not, MatchBool, Option, Some, List, Result, IfOk, IfErr, ◌||◌, ◌&&◌, arith, refl, sym, ap, subst, ◌∙◌}
+use Rattle.store.proofs.Names.{◌≡◌, ℤ, pos, Bool, true, false, is_some, not, MatchBool, Option, Some, List, Result, IfOk, IfErr, ◌||◌, ◌&&◌, arith, refl, sym, ap, subst, ◌∙◌, false≢true, true≢false, and_parts, not-false, not-true, Trees, Schema, State, Survives, IsUnchanged, HasCleanDisk, survives_then, Ids, Names, StoreFault, IsFirstLaidOut, HasMeta, IsLaidOut, IsVacant, AllByRecursion, Row, IsOnly, layouts, SaysLayout, meta_rows, IsMetaRow, LiesBeside, MayStandFor, IsReady, IsOf, IsTurned, MayEnter, names_for, tables_of, has_any}
 use Rattle.std.proofs.lemmas.Result.{IfOk-weaker, IfErr-weaker}
-use Rattle.std.proofs.lemmas.Bool.{false≢true, true≢false, and_parts, not-false, not-true}
-use Rattle.sqlite_trees.specs.Tree.{Trees}
-use Rattle.sqlite_schema.specs.declared.schema.Schema.{Schema}
 use Rattle.sqlite.specs.Effect.{Database as Stored}
-use Rattle.sqlite.specs.State.{State, Survives, IsUnchanged, HasCleanDisk}
-use Rattle.sqlite.proofs.StateLemmas.{survives_then}
-use Rattle.gtid.specs.Identifier.{Ids}
-use Rattle.binlog.specs.Filter.{Names}
-use Rattle.store.specs.declared.fault.StoreFault.{StoreFault}
 use Rattle.store.specs.declared.layout.Tables.{Tables}
 use Rattle.store.specs.declared.layout.KnownLayout.{KnownLayout}
 use Rattle.store.specs.declared.layout.KnownLayout.TheVariants.{First, Second}
-use Rattle.store.specs.Layout.{IsFirstLaidOut, HasMeta, IsLaidOut, IsVacant}
-use Rattle.std.specs.List.{AllByRecursion}
-use Rattle.sqlite_value.specs.Order.{Row}
 use Rattle.store.specs.declared.table.meta.Meta.{Meta}
-use Rattle.store.specs.Judge.{IsMeta, IsOnly, layouts}
-use Rattle.store.specs.Rows.{SaysLayout, meta_rows, IsMetaRow}
+use Rattle.store.specs.Judge.{IsMeta}
 use Rattle.store.specs.Load.{StatesLayout, HasLayout, Enters, EntersWhere}
 use Rattle.store.specs.declared.load.Loaded.{Loaded}
-use Rattle.store.specs.Beside.{LiesBeside}
-use Rattle.store.specs.Open.{MayStandFor}
-use Rattle.store.specs.Entering.{IsReady, IsKnown, IsDamaged, lacks_first, lacks_second, breaks_first, breaks_second, blank, first, second, lacking, IsOf, IsWhy, IsEntered, IsTurned, MayEnter, names_for, tables_of, has_any, has_first, has_second}
+use Rattle.store.specs.Entering.{IsKnown, IsDamaged, lacks_first, lacks_second, breaks_first, breaks_second, blank, first, second, lacking, IsWhy, IsEntered, has_first, has_second}
 use Rattle.store.proofs.Lives.{narrowed}
-use Rattle.store.proofs.Entered.{rests_after, weaken}
+use Rattle.store.proofs.OpeningOutcome.{rests_after, weaken}
 
 -- ---- known schemas
 

@@ -1,13 +1,7 @@
 -- The layout that the rows of meta state.
-use Rattle.std.proofs.Common.{ℤ, List, codes, Option, None, Some, subst}
-use Rattle.std.specs.List.Sorted.{IsPermutation}
-use Rattle.std.proofs.lemmas.List.Sorted.{IsPermutation-map, IsPermutation-sym}
-use Rattle.sqlite_trees.proofs.ListLemmas.{IsPermutation-filter}
-use Rattle.sqlite_value.specs.declared.value.Value.TheVariants.{Int}
-use Rattle.sqlite_value.specs.Order.{Row, column}
-use Rattle.sqlite.proofs.Callers.{one_permutation}
+use Rattle.store.proofs.Names.{ℤ, List, codes, Option, None, Some, subst, IsPermutation, IsPermutation-map, IsPermutation-sym, IsPermutation-filter, Int, Row, one_permutation, layouts, IsOnly}
+use Rattle.sqlite_value.specs.Order.{column}
 use Rattle.store.specs.Rows.{is_text}
-use Rattle.store.specs.Judge.{layouts, IsOnly}
 
 same_layouts : (rows answer : List Row) → IsPermutation rows answer → IsPermutation (layouts rows) (layouts answer)
 same_layouts rows answer same = IsPermutation-map (λ (row : Row). column row 2) _ _ (IsPermutation-filter (λ row. is_text (codes "layout") (column row 1)) rows answer same)

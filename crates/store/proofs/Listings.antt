@@ -1,32 +1,19 @@
 -- The rows of held in order.
-use Rattle.std.proofs.Common.{◌≡◌, ◌⊎◌, inl, inr, ℕ, ◌+◌, ◌≤◌, pos, true, false, List, [], ◌∷◌, ◌++◌, map, drop, Option, Some, None, refl, sym, ap, subst, ◌∙◌, arith}
-use Rattle.std.specs.List.{AllByRecursion, sum_by}
-use Rattle.std.specs.List.Sorted.{IsPermutation, IsStrictlySortedBy}
-use Rattle.std.specs.declared.cmp.Ordering.TheVariants.{Less, Equal}
-use Rattle.std.proofs.lemmas.Bool.{cases_Bool, and_parts, and_from, false_from_ne_true}
-use Rattle.std.proofs.lemmas.Cmp.{tied_itself}
+use Rattle.store.proofs.Names.{◌≡◌, ◌⊎◌, inl, inr, ℕ, ◌+◌, ◌≤◌, pos, true, false, List, [], ◌∷◌, ◌++◌, map, Option, Some, None, refl, sym, ap, subst, ◌∙◌, arith, AllByRecursion, IsPermutation, Less, Equal, cases_Bool, and_parts, and_from, false_from_ne_true, tied_itself, bytes_eq-Decides, all-permutation, Value, Int, Blob, Row, Schema, State, Survives, CellValue, IsImage, HasImage, image, row_of, has_image, IsLaidOut, held_tree, AsksAll, most, Key, IsHeldRow, is_at, count, bag_of, blob_in, key_cmp, listed_text}
+use Rattle.std.proofs.Common.{drop}
+use Rattle.std.specs.List.{sum_by}
+use Rattle.std.specs.List.Sorted.{IsStrictlySortedBy}
 use Rattle.std.proofs.lemmas.List.Sorted.{sum_by-IsPermutation}
 use Rattle.std.proofs.lemmas.List.Sums.{sum_by-cons}
-use Rattle.std.proofs.lemmas.Slice.Eq.{bytes_eq-Decides}
-use Rattle.sqlite_trees.proofs.ListLemmas.{all-permutation}
-use Rattle.sqlite_value.specs.declared.value.Value.{Value}
-use Rattle.sqlite_value.specs.declared.value.Value.TheVariants.{Int, Blob}
-use Rattle.sqlite_value.specs.Order.{Row, column}
-use Rattle.sqlite_schema.specs.declared.schema.Schema.{Schema}
-use Rattle.sqlite.specs.State.{State, Survives}
-use Rattle.binlog.specs.Cell.{CellValue}
-use Rattle.gather.specs.Image.{IsImage, HasImage, image}
+use Rattle.sqlite_value.specs.Order.{column}
 use Rattle.gather.proofs.WholeImages.{one_list}
-use Rattle.store.specs.State.{TableRow, row_of, Bag, has_image}
-use Rattle.store.specs.Layout.{IsLaidOut, held_tree}
-use Rattle.store.specs.Load.{AsksAll}
-use Rattle.store.specs.Changes.{most}
-use Rattle.store.specs.Rows.{Key, key_for, IsHeldRow, is_at, share, count, bag_of, blob_in, number_in}
-use Rattle.store.specs.Listing.{Entry, key_cmp, row_cmp, entry_rows, ListsBag, shown_entry, without_rowids, listed_text, HasKey, KeysRise}
+use Rattle.store.specs.State.{TableRow, Bag}
+use Rattle.store.specs.Rows.{key_for, share, number_in}
+use Rattle.store.specs.Listing.{Entry, row_cmp, entry_rows, ListsBag, shown_entry, without_rowids, HasKey, KeysRise}
 use Rattle.store.proofs.AnyWhole.{listed_by_key, listed_asks as any_listed}
 use Rattle.store.proofs.Bags.{image_has, has_its_image}
-use Rattle.store.proofs.Keyed.{key_total}
-use Rattle.store.proofs.Ordered.{key_order}
+use Rattle.store.proofs.KeyOrder.{key_total}
+use Rattle.store.proofs.QueryOrder.{key_order}
 use Rattle.store.proofs.Steps.{first_step}
 
 -- ---- What the text means.

@@ -1,7 +1,5 @@
 -- What is left after a crash, whatever may be committed.
-use Rattle.sqlite_trees.specs.Tree.{Trees}
-use Rattle.sqlite.specs.State.{State, Survives, HasCleanDisk}
-use Rattle.sqlite.proofs.StateLemmas.{survives_then, survives_weaker}
+use Rattle.store.proofs.Names.{Trees, State, Survives, HasCleanDisk, survives_then, survives_weaker}
 
 pub over_any : (a b : State) (P : Trees → Type 0) → Survives a b P → Survives a b (λ _. Unit {0})
 over_any a b P s = survives_weaker a b P (λ _. Unit {0}) (λ _ db may. tt) s

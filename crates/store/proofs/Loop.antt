@@ -1,14 +1,11 @@
 -- The loop over the changes.
-use Rattle.std.proofs.Common.{◌≡◌, ◌+◌, ℕ, zero, suc, List, [], ◌∷◌, ◌++◌, take, drop, Some, None, refl, sym, ap, subst, ◌∙◌, add-one}
+use Rattle.store.proofs.Names.{◌≡◌, ◌+◌, ℕ, zero, suc, List, [], ◌∷◌, ◌++◌, take, Some, None, refl, sym, ap, subst, ◌∙◌, State, Names, AreDone, bag_of, count, held_rows, DoesAll, Refusal}
+use Rattle.std.proofs.Common.{drop, add-one}
 use Rattle.std.specs.List.{slice_get}
-use Rattle.sqlite.specs.State.{State}
-use Rattle.binlog.specs.Filter.{Names}
 use Rattle.gather.specs.Transaction.{ChangeValue}
 use Rattle.store.specs.State.{Bag}
-use Rattle.store.specs.Changes.{IsDone, AreDone}
-use Rattle.store.specs.Rows.{bag_of, count, held_rows}
-use Rattle.store.specs.Inside.{Does, DoesAll}
-use Rattle.store.specs.declared.row_change.Refusal.{Refusal}
+use Rattle.store.specs.Changes.{IsDone}
+use Rattle.store.specs.Inside.{Does}
 use Rattle.store.proofs.Bags.{goes_after}
 
 done_last : (names : Names) (changes : List ChangeValue) (change : ChangeValue) (old mid new : Bag) → AreDone names changes old mid → IsDone names change mid new → AreDone names (changes ++ change ∷ []) old new

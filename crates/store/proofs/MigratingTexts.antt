@@ -1,35 +1,24 @@
 -- What the text of the migration that writes a row means.
-use Rattle.std.proofs.Common.{◌≡◌, ◌<◌, ◌-◌, ℕ, suc, true, false, nat_lt, List, [], ◌∷◌, codes, pos, Ok, Some, None, refl, arith}
-use Rattle.std.proofs.lemmas.Bool.{lt-ltb}
-use Rattle.sqlite_value.specs.declared.keys.Collation.TheVariants.{Binary}
-use Rattle.sqlite_value.specs.declared.value.Value.TheVariants.{Null, Int, Text as Bytes}
+use Rattle.store.proofs.Names.{◌≡◌, ◌<◌, ◌-◌, ℕ, suc, true, false, nat_lt, List, [], ◌∷◌, codes, pos, Ok, Some, None, refl, arith, lt-ltb, Binary, Null, Int, Term, lit, col, op2, Table, Schema, Update, Expr, Parsed, Carried, nothing, Name, Context, lower, IsFound, meta}
+use Rattle.sqlite_value.specs.declared.value.Value.TheVariants.{Text as Bytes}
 use Rattle.sqlite_sql.specs.declared.ops.BinaryOp.TheVariants as by
 use Rattle.sqlite_sql.specs.declared.ops.CompareOp.TheVariants as compare
-use Rattle.sqlite_sql.specs.Term.{Term, lit, col, op2}
 use Rattle.sqlite_schema.specs.declared.schema.Column.{Column as Declared}
-use Rattle.sqlite_schema.specs.declared.schema.Table.{Table}
-use Rattle.sqlite_schema.specs.declared.schema.Schema.{Schema}
 use Rattle.sqlite_schema.specs.declared.schema.Kind.TheVariants.{Text}
-use Rattle.sqlite_schema.specs.declared.command.Command.TheVariants.{Update}
 use Rattle.sqlite_schema.specs.Names.{same_name}
 use Rattle.sqlite_ast.specs.declared.Binary.TheVariants as binary
-use Rattle.sqlite_ast.specs.declared.Expr.{Expr}
 use Rattle.sqlite_ast.specs.declared.Expr.TheVariants as e
 use Rattle.sqlite_ast.specs.declared.Statement.TheVariants as written
-use Rattle.sqlite_syntax.specs.declared.statement.Parsed.{Parsed}
-use Rattle.sqlite_resolve.specs.declared.state.Carried.{Carried}
-use Rattle.sqlite_resolve.specs.Lowering.{nothing, spend, begin, finish, chosen, first_found}
-use Rattle.sqlite_resolve.specs.Scope.{Name, Context}
+use Rattle.sqlite_resolve.specs.Lowering.{spend, begin, finish, chosen, first_found}
 use Rattle.sqlite_resolve.specs.Compare.{compared, converted, affinity_of, spelled}
 use Rattle.sqlite_resolve.specs.Body.{tests}
-use Rattle.sqlite_resolve.specs.Expr.{lower, lower_to, node, opened, passes, operation, both, combine, wanted_truth, tests_truth, tests_alias}
+use Rattle.sqlite_resolve.specs.Expr.{lower_to, node, opened, passes, operation, both, combine, wanted_truth, tests_truth, tests_alias}
 use Rattle.sqlite_resolve.specs.Write.{assigned, row}
 use Rattle.sqlite_resolve.specs.Compile.{first}
 use Rattle.sqlite_tied.specs.Compute.{everything}
-use Rattle.store.specs.Layout.{IsFound, meta}
 use Rattle.store.specs.Migrating.{raise_text, says_layout, raise_query}
 use Rattle.store.proofs.AnySchema.{Means, means}
-use Rattle.store.proofs.Compiling.{written_trees, only_over, after_reading, less, StandsFor, stands_for_column, affinity_is, tests_are, program_is, compiled_update}
+use Rattle.store.proofs.Compiler.{written_trees, only_over, after_reading, less, StandsFor, stands_for_column, affinity_is, tests_are, program_is, compiled_update}
 
 abbrev layout_test : Expr
 layout_test = e.Binary binary.Eq (e.Column None (codes "k")) (e.Text (codes "layout"))

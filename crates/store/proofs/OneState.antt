@@ -1,33 +1,18 @@
 -- A database stands for one content at most, and then it is neither damaged nor of another layout.
-use Rattle.std.proofs.Common.{◌≡◌, ◌<◌, ◌≤◌, ◌-◌, ◌^◌, inl, inr, ◌≢◌, ℕ, zero, suc, ℤ, pos, negsuc, true, ◌||◌, List, [], ◌∷◌, length, map, flat_map, IsTrue, refl, sym, ap, ap₂, subst, subst₂, ◌∙◌, arith}
-use Rattle.std.specs.List.{AllByRecursion, IsDistinct, list_any}
-use Rattle.std.specs.List.Sorted.{IsPermutation}
+use Rattle.store.proofs.Names.{◌≡◌, ◌<◌, ◌≤◌, ◌-◌, ◌^◌, inl, inr, ◌≢◌, ℕ, zero, suc, ℤ, pos, true, ◌||◌, List, [], ◌∷◌, length, map, flat_map, IsTrue, refl, sym, ap, ap₂, subst, subst₂, ◌∙◌, arith, AllByRecursion, list_any, IsPermutation, false≢true, cases_Bool, le-leb, lt-ltb, eq_by_cmp, list_any-append, IsPermutation-sym, IsPermutation-trans, IsPermutation-map, list_any-IsPermutation, IsDistinct-IsPermutation, bytes_eq-Decides, Row, rowid, is_int, all-permutation, Schema, int_is, Database, IsDatabase, Id, Ids, IsSource, IsGtid, id_cmp, Span, id_cmp_total, id_cmp-same, Names, Content, IsFirstLaidOut, IsLaidOut, IsVacant, SaysLayout, StandsFor, StandsForFirst, AreSpans, HasRowids, IsSpanRow, meta_rows, follow_rows, held_rows, span_rows, bag_of, count, name_in, span_in, stored_span, shown_span, shown_spans, touches, blob_in, IsOf, tables_of, has_any}
+use Rattle.std.proofs.Common.{negsuc}
+use Rattle.std.specs.List.{IsDistinct}
 use Rattle.std.specs.FinSet as set
-use Rattle.std.proofs.lemmas.Bool.{false≢true, cases_Bool, le-leb, lt-ltb, or_right}
-use Rattle.std.specs.Ordering.{eq_by_cmp}
-use Rattle.std.proofs.lemmas.List.Folds.{list_any-append}
-use Rattle.std.proofs.lemmas.List.Sorted.{IsPermutation-sym, IsPermutation-trans, IsPermutation-map, list_any-IsPermutation}
-use Rattle.std.proofs.lemmas.Map.Keys.{IsDistinct-IsPermutation}
-use Rattle.std.proofs.lemmas.Slice.Eq.{bytes_eq-Decides}
-use Rattle.sqlite_value.specs.Order.{Row, column}
-use Rattle.sqlite_trees.specs.Tree.{rowid}
-use Rattle.sqlite_trees.specs.View.{is_int}
-use Rattle.sqlite_trees.proofs.ListLemmas.{all-permutation}
-use Rattle.sqlite_schema.specs.declared.schema.Schema.{Schema}
+use Rattle.std.proofs.lemmas.Bool.{or_right}
+use Rattle.sqlite_value.specs.Order.{column}
 use Rattle.sqlite_rules.specs.Edit.{id_in}
-use Rattle.sqlite_rules.proofs.TableLemmas.{int_is}
-use Rattle.sqlite.specs.Effect.{Database, IsDatabase}
-use Rattle.gtid.specs.Identifier.{Id, Ids, IsSource, IsGtid, id_cmp}
 use Rattle.gtid.specs.Group.{ids_of_interval}
 use Rattle.gtid.specs.Span.{is_in, Covers}
 use Rattle.gtid.specs.declared.interval.Interval.{Interval}
-use Rattle.gtid.specs.declared.span.Span.{Span}
-use Rattle.gtid.proofs.Sets.{id_cmp_total, id_cmp-same, listed_in_interval}
-use Rattle.binlog.specs.Filter.{Names}
-use Rattle.store.specs.State.{Content}
-use Rattle.store.specs.Layout.{spans_at, IsFirstLaidOut, IsLaidOut, IsVacant}
-use Rattle.store.specs.Rows.{SaysLayout, StandsFor, StandsForFirst, KeepsRules, AreSpans, HasRowids, IsSpanRow, meta_rows, executed_rows, follow_rows, held_rows, span_rows, bag_of, count, id_in as id_at, name_in, span_from, span_in, stored_span, shown_span, shown_spans, touches, blob_in, number_in}
-use Rattle.store.specs.Entering.{IsStored, IsOf, IsDamaged, no_meta, no_layout, lacks_first, lacks_second, breaks_first, breaks_second, IsOtherLayout, IsKnown, blank, first, second, tables_of, has_any, has_first, has_second}
+use Rattle.gtid.proofs.Sets.{listed_in_interval}
+use Rattle.store.specs.Layout.{spans_at}
+use Rattle.store.specs.Rows.{KeepsRules, executed_rows, id_in as id_at, span_from, number_in}
+use Rattle.store.specs.Entering.{IsStored, IsDamaged, no_meta, no_layout, lacks_first, lacks_second, breaks_first, breaks_second, IsOtherLayout, IsKnown, blank, first, second, has_first, has_second}
 use Rattle.store.proofs.AnyWhole.{has_index}
 use Rattle.store.proofs.Known.{meta_there, none_meta, none_any, known_first, known_second}
 use Rattle.store.proofs.Readings.{row_lengths}

@@ -1,27 +1,11 @@
 -- New rows that are put in one after another.
-use Rattle.std.proofs.Common.{◌≡◌, inl, inr, List, [], ◌∷◌, map, drop, pos, Bool, true, false, refl, sym, ap, subst, arith}
-use Rattle.std.specs.List.{AllByRecursion, list_any}
-use Rattle.std.specs.Ordering.{is_eq, match_ordering}
-use Rattle.std.specs.declared.cmp.Ordering.{Ordering}
-use Rattle.std.specs.declared.cmp.Ordering.TheVariants.{Less, Equal, Greater}
-use Rattle.std.proofs.lemmas.Bool.{or_parts, and_parts, not-true}
-use Rattle.sqlite_value.specs.declared.value.Value.{Value}
-use Rattle.sqlite_value.specs.declared.value.Value.TheVariants.{Int, Blob}
-use Rattle.sqlite_value.specs.Keys.{plain}
-use Rattle.sqlite_value.specs.Order.{Row, value_cmp}
-use Rattle.sqlite_trees.specs.Tree.{rowid, put_row}
-use Rattle.sqlite_trees.proofs.TreeLemmas.{all-put_row}
+use Rattle.store.proofs.Names.{◌≡◌, inl, inr, List, [], ◌∷◌, map, pos, Bool, true, false, refl, sym, ap, subst, arith, AllByRecursion, list_any, is_eq, match_ordering, Ordering, Less, Equal, Greater, or_parts, and_parts, not-true, Value, Int, Blob, plain, Row, rowid, put_row, all-put_row, next_rowid, are_fresh, is_taken, put_all, Chosen, Schema, clashes, IsSomeImage, held_at, Key, HasRowids, IsHeldRow, is_at, count, Appear}
+use Rattle.std.proofs.Common.{drop}
+use Rattle.sqlite_value.specs.Order.{value_cmp}
 use Rattle.sqlite_rules.specs.Lists.{Has}
 use Rattle.sqlite_rules.specs.Cast.{cast_row}
-use Rattle.sqlite_rules.specs.Edit.{next_rowid, numbered, are_fresh, is_taken, put_all}
-use Rattle.sqlite_rules.specs.declared.error.Rowids.TheVariants.{Chosen}
+use Rattle.sqlite_rules.specs.Edit.{numbered}
 use Rattle.sqlite_rules.proofs.TableLemmas.{has_put}
-use Rattle.sqlite_schema.specs.declared.schema.Schema.{Schema}
-use Rattle.sqlite_schema.specs.Rules.{clashes}
-use Rattle.gather.specs.Image.{IsSomeImage}
-use Rattle.store.specs.Layout.{held_at}
-use Rattle.store.specs.Rows.{Key, HasRowids, IsHeldRow, is_at, count}
-use Rattle.store.specs.Inside.{Appear}
 use Rattle.store.proofs.Statements.{given_row, cast_null, cast_int}
 use Rattle.store.proofs.Unique.{none_before, none_at}
 use Rattle.store.proofs.RowLemmas.{own_bytes, rowids_put, counts_inserted, count_none}

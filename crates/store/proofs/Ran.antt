@@ -1,25 +1,11 @@
 -- A transaction from its begin to its end.
-use Rattle.std.proofs.Common.{◌≡◌, inl, inr, ℕ, Bool, true, false, Option, Ok, Err, Result, refl, sym, ap, subst, subst₂, ◌∙◌, arith}
+use Rattle.store.proofs.Names.{◌≡◌, inl, inr, ℕ, Bool, true, false, Option, Ok, Err, Result, refl, sym, ap, subst, subst₂, ◌∙◌, arith, Trees, Error, Database, IsDatabase, State, HasCleanDisk, Survives, KeepsCommit, IsRolledBack, FailsToCommit, Held, survives_begin, survives_then, Names, DeliveryValue, Refusal, Content, StandsFor, HasRowids, held_rows, span_rows, IsWorking, StaysOpen, HasMade, LiesBeside, IsAtRest, Rests, RunsTransaction, MayCommit}
 use Rattle.std.specs.Result.{IsErr}
 use Rattle.sqlite_trees.specs.declared.store.Store as store
-use Rattle.sqlite_trees.specs.Tree.{Trees}
-use Rattle.sqlite.specs.declared.error.Error.{Error}
-use Rattle.sqlite.specs.Effect.{Database, IsDatabase}
-use Rattle.sqlite.specs.State.{State, HasCleanDisk, Survives, KeepsCommit, IsRolledBack, Shows}
-use Rattle.sqlite.specs.Steps.{FailsToCommit}
-use Rattle.sqlite.specs.Held.{Held, state}
-use Rattle.sqlite.proofs.Callers.{survives_begin}
-use Rattle.sqlite.proofs.StateLemmas.{survives_then}
-use Rattle.binlog.specs.Filter.{Names}
-use Rattle.gather.specs.Transaction.{DeliveryValue}
-use Rattle.store.specs.declared.row_change.Refusal.{Refusal}
-use Rattle.store.specs.State.{Content}
-use Rattle.store.specs.Rows.{StandsFor, HasRowids, held_rows, span_rows}
-use Rattle.store.specs.Inside.{IsWorking, StaysOpen}
-use Rattle.store.specs.Making.{HasMade}
-use Rattle.store.proofs.Spared.{beside_unchanged}
-use Rattle.store.specs.Beside.{LiesBeside}
-use Rattle.store.specs.Apply.{IsApplied, IsAppliedAlone, IsAtRest, Rests, IsAtRestAfter, RunsTransaction, MayCommit}
+use Rattle.sqlite.specs.State.{Shows}
+use Rattle.sqlite.specs.Held.{state}
+use Rattle.store.proofs.BesideStays.{beside_unchanged}
+use Rattle.store.specs.Apply.{IsApplied, IsAppliedAlone, IsAtRestAfter}
 
 pub begun_working : {S : Type 0} (g : store.Ghosts S) (h : Held S) (names : Names) (content : Content) → IsAtRest (state g h) names content → IsWorking (state g (record h { in_transaction = true }))
 begun_working g h names content rest = record {

@@ -1,37 +1,19 @@
 -- What a query for a whole table answers.
-use Rattle.std.proofs.Common.{◌≡◌, ◌<◌, ◌≤◌, ◌+◌, inl, inr, ℕ, suc, zero, List, [], ◌∷◌, map, flat_map, length, drop, Bool, true, false, not, ◌&&◌, ◌||◌, cond, None, Ok, Err, Result, IfOk, OnOk, IfErr, refl, sym, ap, subst, subst₂, ◌∙◌, arith}
-use Rattle.std.specs.List.{AllByRecursion}
+use Rattle.store.proofs.Names.{◌≡◌, ◌<◌, ◌≤◌, ◌+◌, inl, inr, ℕ, suc, zero, List, [], ◌∷◌, map, flat_map, length, Bool, true, false, not, ◌&&◌, ◌||◌, cond, None, Ok, Err, Result, IfOk, OnOk, IfErr, refl, sym, ap, subst, subst₂, ◌∙◌, arith, AllByRecursion, IsPermutation, IsPermutation-map, Value, Null, Row, Term, eval_all, is_lt, all-permutation, overlay, Column, Select, all_has, Table, Schema, IsSound, Trees, Error, IsDatabase, State, IsLive, IsUnchanged, IsRolledBack, Survives, AsksAll, Rested, by_order, Rests}
+use Rattle.std.proofs.Common.{drop}
 use Rattle.std.specs.Prelude.{unwrap_or}
-use Rattle.std.specs.List.Sorted.{IsPermutation}
-use Rattle.std.proofs.lemmas.List.Sorted.{IsPermutation-map}
-use Rattle.sqlite_value.specs.declared.value.Value.{Value}
-use Rattle.sqlite_value.specs.declared.value.Value.TheVariants.{Null}
 use Rattle.sqlite_value.specs.declared.keys.Key.{Key}
-use Rattle.sqlite_value.specs.Order.{Row, column}
-use Rattle.sqlite_sql.specs.Term.{Term, eval_all}
+use Rattle.sqlite_value.specs.Order.{column}
 use Rattle.sqlite_sql.specs.Query.{IsAnswerAs, output, Output, output_cmp, key_cmp}
-use Rattle.std.specs.Ordering.{is_lt}
-use Rattle.sqlite_trees.proofs.ListLemmas.{all-permutation}
-use Rattle.store.proofs.Ascending.{ascends_of}
-use Rattle.sqlite_sql.specs.Program.{overlay}
-use Rattle.sqlite_schema.specs.declared.schema.Column.{Column}
+use Rattle.store.proofs.SortedLists.{ascends_of}
 use Rattle.sqlite_schema.specs.declared.schema.Constraint.TheVariants.{Datatype, NotNull}
-use Rattle.sqlite_schema.specs.declared.command.Command.TheVariants.{Select}
 use Rattle.sqlite_schema.specs.Rules.{are_typed, are_present}
 use Rattle.sqlite_sql.specs.Ops.{is_null}
-use Rattle.sqlite_rules.proofs.ListLemmas.{all_has}
 use Rattle.sqlite_rules.specs.Lists.{Has}
-use Rattle.sqlite_schema.specs.declared.schema.Table.{Table}
-use Rattle.sqlite_schema.specs.declared.schema.Schema.{Schema}
-use Rattle.sqlite_catalog.specs.Listing.{IsSound}
-use Rattle.sqlite_trees.specs.Tree.{Trees}
-use Rattle.sqlite.specs.declared.error.Error.{Error}
-use Rattle.sqlite.specs.Effect.{IsDatabase}
-use Rattle.sqlite.specs.State.{State, IsLive, Shown, IsUnchanged, IsRolledBack, IsNotRun, FailsToQuery, Survives, CommitsShowing}
+use Rattle.sqlite.specs.State.{Shown, IsNotRun, FailsToQuery, CommitsShowing}
 use Rattle.sqlite.specs.Given.{IsPlain}
 use Rattle.sqlite.proofs.Callers.{reads_as, never_commits}
-use Rattle.store.specs.Load.{AsksAll, IsFilled, columns_from, whole, Rested, Ascends, by_order}
-use Rattle.store.specs.Apply.{Rests}
+use Rattle.store.specs.Load.{IsFilled, columns_from, whole, Ascends}
 use Rattle.store.proofs.Statements.{unchanged}
 use Rattle.store.proofs.Keeps.{kept_query}
 use Rattle.store.proofs.Selects.{map_twice}

@@ -1,26 +1,13 @@
 -- What an edit of a table does to the counts.
-use Rattle.std.proofs.Common.{◌≡◌, inl, inr, ℕ, ◌+◌, ◌-◌, ℤ, pos, List, [], ◌∷◌, filter, Bool, true, false, cond, refl, sym, ap, ◌∙◌, arith, not, ◌&&◌}
-use Rattle.std.proofs.lemmas.Bool.{and_parts, or_parts, cases_Bool, false_from_ne_true}
-use Rattle.std.proofs.lemmas.Slice.Eq.{bytes_eq-Decides}
+use Rattle.store.proofs.Names.{◌≡◌, inl, inr, ℕ, ◌+◌, ◌-◌, ℤ, pos, List, [], ◌∷◌, filter, Bool, true, false, cond, refl, sym, ap, ◌∙◌, arith, not, ◌&&◌, and_parts, or_parts, cases_Bool, false_from_ne_true, bytes_eq-Decides, is_eq, match_ordering, Ordering, Less, Equal, Greater, AllByRecursion, Value, Null, Int, Real, Text, Blob, Row, value_cmp_total, all-put_row, IsPermutation, IsPermutation-refl, IsPermutation-trans, IsPermutation-cons, rowid, put_row, without_rowid, has_rowid, is_int, is_taken, all_has, has_filtered, Key, alike, HasRowids, same_key, is_blob, is_at, count, with_one, without_one}
 use Rattle.std.proofs.lemmas.Cmp.{tied_back}
-use Rattle.std.specs.Ordering.{is_eq, match_ordering}
-use Rattle.std.specs.declared.cmp.Ordering.{Ordering}
-use Rattle.std.specs.declared.cmp.Ordering.TheVariants.{Less, Equal, Greater}
-use Rattle.std.specs.List.{AllByRecursion, IsDistinct}
+use Rattle.std.specs.List.{IsDistinct}
 use Rattle.std.specs.FinSet as set
-use Rattle.sqlite_value.specs.declared.value.Value.{Value}
-use Rattle.sqlite_value.specs.declared.value.Value.TheVariants.{Null, Int, Real, Text, Blob}
-use Rattle.sqlite_value.specs.Order.{Row, column, value_cmp}
-use Rattle.sqlite_value.proofs.OrderLemmas.{value_cmp_total, value_cmp-Int}
-use Rattle.sqlite_trees.proofs.TreeLemmas.{all-put_row}
-use Rattle.std.specs.List.Sorted.{IsPermutation}
-use Rattle.std.proofs.lemmas.List.Sorted.{IsPermutation-refl, IsPermutation-trans, IsPermutation-insert, IsPermutation-cons}
-use Rattle.sqlite_trees.specs.Tree.{rowid, put_row, without_rowid, has_rowid}
-use Rattle.sqlite_trees.specs.View.{is_int}
+use Rattle.sqlite_value.specs.Order.{column, value_cmp}
+use Rattle.sqlite_value.proofs.OrderLemmas.{value_cmp-Int}
+use Rattle.std.proofs.lemmas.List.Sorted.{IsPermutation-insert}
 use Rattle.sqlite_rules.specs.Lists.{Has}
-use Rattle.sqlite_rules.specs.Edit.{is_taken}
-use Rattle.sqlite_rules.proofs.ListLemmas.{all_has, has_filtered}
-use Rattle.store.specs.Rows.{Key, alike, HasRowids, same_key, is_blob, is_at, number_in, share, count, with_one, without_one}
+use Rattle.store.specs.Rows.{number_in, share}
 
 -- ---- keys
 

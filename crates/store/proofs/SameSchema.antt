@@ -1,20 +1,12 @@
 -- Trees that list two schemas list the same tables.
-use Rattle.std.specs.Prelude.{option_and_then, max, fold, codes, is_some, not, ◌&&◌, None}
+use Rattle.store.proofs.Names.{option_and_then, next_tree, past_views, ◌≡◌, ◌+◌, ℕ, pos, List, [], ◌∷◌, filter, slice_get, false, refl, sym, ap, ap₂, subst, ◌∙◌, arith, AllByRecursion, list_any, position_from, Int, Text, Row, Trees, Table, Index, Schema, table_named, IsSound, IsIndexRow, IsVacant}
+use Rattle.std.specs.Prelude.{max, fold, codes, is_some, not, ◌&&◌, None}
 use Rattle.sqlite_schema.specs.declared.schema.View.{View}
-use Rattle.sqlite_catalog.specs.Change.{next_tree, past_views}
-use Rattle.std.proofs.Common.{◌≡◌, ◌+◌, ℕ, pos, List, [], ◌∷◌, filter, slice_get, false, refl, sym, ap, ap₂, subst, ◌∙◌, arith}
-use Rattle.std.specs.List.{AllByRecursion, AllZip, list_any, position_from}
-use Rattle.sqlite_value.specs.declared.value.Value.TheVariants.{Int, Text}
-use Rattle.sqlite_value.specs.Order.{Row}
-use Rattle.sqlite_trees.specs.Tree.{Trees}
+use Rattle.std.specs.List.{AllZip}
 use Rattle.sqlite_trees.specs.Objects.{catalog_tree}
-use Rattle.sqlite_schema.specs.declared.schema.Table.{Table}
-use Rattle.sqlite_schema.specs.declared.schema.Index.{Index}
-use Rattle.sqlite_schema.specs.declared.schema.Schema.{Schema}
-use Rattle.sqlite_schema.specs.Names.{same_name, table_named}
+use Rattle.sqlite_schema.specs.Names.{same_name}
 use Rattle.sqlite_resolve.specs.Compile.{table_defined_by}
-use Rattle.sqlite_catalog.specs.Listing.{IsSound, IsTableRow, IsIndexRow, IsViewRow, is_index_row, is_view_row}
-use Rattle.store.specs.Layout.{IsVacant}
+use Rattle.sqlite_catalog.specs.Listing.{IsTableRow, IsViewRow, is_index_row, is_view_row}
 
 -- ---- One row of the catalog is one table.
 

@@ -1,27 +1,13 @@
 -- What a query by key shows.
-use Rattle.std.proofs.Common.{◌≡◌, ◌<◌, ◌^◌, ℕ, List, [], ◌∷◌, ◌++◌, map, filter, Bool, true, false, cond, ◌&&◌, Some, refl, sym, ap, subst, ◌∙◌, flat_map, ℤ}
-use Rattle.std.proofs.Math.Bool.{and-true}
-use Rattle.std.specs.List.Sorted.{IsPermutation}
-use Rattle.std.specs.List.{list_all}
-use Rattle.std.proofs.lemmas.List.Sorted.{IsPermutation-map}
+use Rattle.store.proofs.Names.{◌≡◌, ◌<◌, ◌^◌, ℕ, List, [], ◌∷◌, ◌++◌, map, filter, Bool, true, false, cond, ◌&&◌, Some, refl, sym, ap, subst, ◌∙◌, flat_map, ℤ, and-true, IsPermutation, list_all, IsPermutation-map, is_eq-slice_cmp, is_eq, Value, Null, Int, Real, Text, Blob, Binary, Row, Compare, Eq, Term, eval_all, Trees, overlay, has_key, has_count, has_start, Key, is_blob, is_at, has_n, begins_at, shown_span}
 use Rattle.std.proofs.lemmas.Bool.{lt-leb}
-use Rattle.std.proofs.lemmas.Map.Text.{is_eq-slice_cmp}
-use Rattle.std.specs.Ordering.{is_eq}
-use Rattle.sqlite_value.specs.declared.value.Value.{Value}
-use Rattle.sqlite_value.specs.declared.value.Value.TheVariants.{Null, Int, Real, Text, Blob}
-use Rattle.sqlite_value.specs.declared.keys.Collation.TheVariants.{Binary}
-use Rattle.sqlite_value.specs.Order.{Row, column, value_cmp}
+use Rattle.sqlite_value.specs.Order.{column, value_cmp}
 use Rattle.sqlite_value.proofs.OrderLemmas.{value_cmp-Blob, value_cmp-apart}
-use Rattle.sqlite_sql.specs.declared.ops.BinaryOp.TheVariants.{Compare}
-use Rattle.sqlite_sql.specs.declared.ops.CompareOp.TheVariants.{Eq}
 use Rattle.sqlite_sql.specs.Ops.{binary, is_true, from_truth, unary}
-use Rattle.sqlite_sql.specs.Term.{Term, eval_all, holds}
+use Rattle.sqlite_sql.specs.Term.{holds}
 use Rattle.sqlite_sql.specs.Query.{IsAnswerAs, output, Output}
-use Rattle.sqlite_trees.specs.Tree.{Trees}
-use Rattle.sqlite_sql.specs.Program.{overlay}
-use Rattle.store.specs.Layout.{among, has_key, has_count, has_start}
+use Rattle.store.specs.Layout.{among}
 use Rattle.sqlite_sql.specs.declared.ops.UnaryOp.TheVariants.{ToNumeric}
-use Rattle.store.specs.Rows.{Key, is_blob, is_at, has_n, begins_at, shown_span}
 
 pub shown_bool : (b : Bool) → is_true (from_truth (Some b)) ≡ b
 shown_bool true = refl

@@ -1,21 +1,13 @@
 -- Spans of which no two touch, in order: the least intervals of a set.
-use Rattle.std.proofs.Common.{◌≡◌, ◌⊎◌, inl, inr, ℕ, ◌<◌, nat_le, ◌&&◌, bytes_eq, List, [], ◌∷◌, ◌++◌, false, refl, sym, ap, subst, ◌∙◌, arith}
-use Rattle.std.specs.List.{AllByRecursion, IsDistinct}
+use Rattle.store.proofs.Names.{◌≡◌, ◌⊎◌, inl, inr, ℕ, ◌<◌, nat_le, ◌&&◌, bytes_eq, List, [], ◌∷◌, ◌++◌, false, refl, sym, ap, subst, ◌∙◌, arith, AllByRecursion, ordering_reverse, Ordering, Less, Equal, Greater, cases_Bool, and_parts, false_from_ne_true, leb-true, IsPermutation, IsPermutation-refl, IsPermutation-trans, IsPermutation-cons, all-permutation, tied_itself, bytes_eq-Decides, IsLeast, Span, touches}
+use Rattle.std.specs.List.{IsDistinct}
 use Rattle.std.specs.FinSet as set
-use Rattle.std.specs.Ordering.{nat_cmp, ordering_reverse}
-use Rattle.std.specs.declared.cmp.Ordering.{Ordering}
-use Rattle.std.specs.declared.cmp.Ordering.TheVariants.{Less, Equal, Greater}
+use Rattle.std.specs.Ordering.{nat_cmp}
 use Rattle.std.specs.Cmp.Lexicographic.{slice_cmp, nat_list_cmp_total}
-use Rattle.std.proofs.lemmas.Bool.{cases_Bool, and_parts, false_from_ne_true, leb-true, leb-false}
-use Rattle.std.specs.List.Sorted.{IsPermutation}
-use Rattle.std.proofs.lemmas.List.Sorted.{IsPermutation-refl, IsPermutation-trans, IsPermutation-cons, IsPermutation-insert}
-use Rattle.sqlite_trees.proofs.ListLemmas.{all-permutation}
-use Rattle.std.proofs.lemmas.Cmp.{tied_itself}
-use Rattle.std.proofs.lemmas.Slice.Eq.{bytes_eq-Decides}
-use Rattle.gtid.specs.Span.{IsBefore, IsLeast}
-use Rattle.gtid.specs.declared.span.Span.{Span}
+use Rattle.std.proofs.lemmas.Bool.{leb-false}
+use Rattle.std.proofs.lemmas.List.Sorted.{IsPermutation-insert}
+use Rattle.gtid.specs.Span.{IsBefore}
 use Rattle.gtid.proofs.OneLeastList.{some_first, tail_least}
-use Rattle.store.specs.Rows.{touches}
 
 abbrev pub IsSome : Span → Type 0
 IsSome s = s.lo < s.hi

@@ -1,29 +1,15 @@
 -- What each call on one row of spans does, where it succeeds.
-use Rattle.std.proofs.Common.{◌≡◌, inl, ℕ, ℤ, List, [], ◌∷◌, map, filter, codes, not, Bool, true, false, cond, Ok, Err, Result, OnOk, refl, sym, ap, ap₂, subst, ◌∙◌}
-use Rattle.std.specs.List.{AllByRecursion}
-use Rattle.std.specs.List.Sorted.{IsPermutation}
-use Rattle.std.proofs.lemmas.List.Sorted.{IsPermutation-map, IsPermutation-cons, IsPermutation-trans}
-use Rattle.std.specs.Ordering.{is_eq}
-use Rattle.sqlite_trees.proofs.ListLemmas.{IsPermutation-filter}
-use Rattle.sqlite_value.specs.declared.value.Value.TheVariants.{Null, Int, Blob}
-use Rattle.sqlite_value.specs.Order.{Row, column, value_cmp}
-use Rattle.sqlite_trees.specs.Tree.{rowid, put_row, without_rowid, has_rowid}
-use Rattle.sqlite_rules.specs.Edit.{Edit, edit_of, next_rowid, are_fresh, is_taken, id_in, put_all, without_all}
+use Rattle.store.proofs.Names.{◌≡◌, inl, ℕ, ℤ, List, [], ◌∷◌, map, filter, codes, not, Bool, true, false, cond, Ok, Err, Result, OnOk, refl, sym, ap, ap₂, subst, ◌∙◌, AllByRecursion, IsPermutation, IsPermutation-map, IsPermutation-cons, IsPermutation-trans, is_eq, IsPermutation-filter, Null, Int, Blob, Row, rowid, put_row, without_rowid, has_rowid, Edit, edit_of, next_rowid, are_fresh, is_taken, put_all, without_all, Chosen, Given, has_filtered, Schema, Error, State, ExecutesInside, one_permutation, IsLaidOut, meta_at, held_at, follow_at, spans_tree, add_span_text, drop_span_text, set_end_text, IsHeldRow, HasRowids, meta_rows, held_rows, span_rows, shown_span, shown_spans, begins_at, IsWorking, StaysOpen, Moves}
+use Rattle.sqlite_value.specs.Order.{column, value_cmp}
+use Rattle.sqlite_rules.specs.Edit.{id_in}
 use Rattle.sqlite_rules.specs.Calls.{ids_of}
-use Rattle.sqlite_rules.specs.declared.error.Rowids.TheVariants.{Chosen, Given}
-use Rattle.sqlite_rules.proofs.ListLemmas.{has_filtered}
-use Rattle.sqlite_schema.specs.declared.schema.Schema.{Schema}
-use Rattle.sqlite.specs.declared.error.Error.{Error}
-use Rattle.sqlite.specs.State.{State, ExecutesInside}
-use Rattle.sqlite.proofs.Callers.{one_permutation}
-use Rattle.store.specs.Layout.{IsLaidOut, meta_at, held_at, spans_at, follow_at, spans_tree, add_span_text, drop_span_text, set_end_text}
-use Rattle.store.specs.Rows.{IsHeldRow, HasRowids, meta_rows, held_rows, span_rows, shown_span, shown_spans, begins_at}
-use Rattle.store.specs.Inside.{IsWorking, StaysOpen, Moves, Begins}
+use Rattle.store.specs.Layout.{spans_at}
+use Rattle.store.specs.Inside.{Begins}
 use Rattle.store.proofs.Statements.{Applied, cast_null, cast_int, adds_span, drops_span, sets_end}
 use Rattle.store.proofs.RowLemmas.{rowids_put, rowids_without, left_is, put_among}
 use Rattle.store.proofs.Effects.{fresh_alone, keyed_row, own_id, same_rows, stays, still_beside, meta_spans, held_spans, follow_spans}
 use Rattle.store.proofs.Keys.{keys_same}
-use Rattle.store.proofs.Spared.{own_spans}
+use Rattle.store.proofs.BesideStays.{own_spans}
 
 -- ---- what is stored of spans, and what passes a test
 

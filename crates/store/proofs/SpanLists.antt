@@ -1,20 +1,12 @@
 -- Lists of spans stored and deleted.
-use Rattle.std.proofs.Common.{◌≡◌, inl, inr, ◌≤◌, ◌^◌, ◌-◌, List, [], ◌∷◌, ◌++◌, map, true, Ok, Err, Result, OnOk, append-nil, sym, subst, ◌∙◌}
-use Rattle.std.proofs.lemmas.Bool.{and_parts, or_cases}
-use Rattle.std.proofs.lemmas.Slice.Eq.{bytes_eq-Decides}
+use Rattle.store.proofs.Names.{◌≡◌, inl, inr, ◌≤◌, ◌^◌, ◌-◌, List, [], ◌∷◌, ◌++◌, map, true, Ok, Err, Result, OnOk, append-nil, sym, subst, ◌∙◌, and_parts, bytes_eq-Decides, AllByRecursion, list_any, IsPermutation, IsPermutation-trans, IsPermutation-cons, Row, State, Span, held_rows, span_rows, shown_spans, stored_span, Id, Ids, IsSource, AreGtids, IsLeastList, Moves, HasLeft, AreRowsOf, Records}
+use Rattle.std.proofs.lemmas.Bool.{or_cases}
 use Rattle.std.specs.FinSet as set
-use Rattle.std.specs.List.{AllByRecursion, list_any}
-use Rattle.std.specs.List.Sorted.{IsPermutation}
-use Rattle.std.proofs.lemmas.List.Sorted.{IsPermutation-trans, IsPermutation-cons, IsPermutation-append_comm, IsPermutation-append_left}
-use Rattle.sqlite_value.specs.Order.{Row}
-use Rattle.sqlite.specs.State.{State}
-use Rattle.gtid.specs.declared.span.Span.{Span}
-use Rattle.store.specs.Rows.{held_rows, span_rows, shown_spans, stored_span}
-use Rattle.gtid.specs.Identifier.{Id, Ids, IsSource, AreGtids}
-use Rattle.gtid.specs.Span.{IsLeastList, is_in}
+use Rattle.std.proofs.lemmas.List.Sorted.{IsPermutation-append_comm, IsPermutation-append_left}
+use Rattle.gtid.specs.Span.{is_in}
 use Rattle.gtid.proofs.OneLeastList.{one_least_list, tail_least}
-use Rattle.store.specs.Inside.{Moves, HasLeft, AreRowsOf, Shows, Records}
-use Rattle.store.proofs.Made.{goes_then}
+use Rattle.store.specs.Inside.{Shows}
+use Rattle.store.proofs.BetweenCalls.{goes_then}
 
 -- ---- the spans, one after another
 

@@ -1,29 +1,15 @@
 -- The spans next to a number and the number become one span.
-use Rattle.std.proofs.Common.{◌≡◌, inl, inr, ℕ, ◌-◌, ◌<◌, ◌≤◌, ◌^◌, nat_le, nat_lt, bytes_eq, ◌&&◌, ◌||◌, Bool, pos, List, [], ◌∷◌, ◌++◌, map, true, false, Some, None, Option, IfSome, Ok, Err, Result, OnOk, refl, sym, ap, subst, ◌∙◌, append_assoc, arith}
-use Rattle.std.specs.List.{AllByRecursion, IsDistinct, list_any}
-use Rattle.std.specs.List.Sorted.{IsPermutation}
+use Rattle.store.proofs.Names.{◌≡◌, inl, inr, ℕ, ◌-◌, ◌<◌, ◌≤◌, ◌^◌, nat_le, nat_lt, bytes_eq, ◌&&◌, ◌||◌, Bool, pos, List, [], ◌∷◌, ◌++◌, map, true, false, Some, None, Option, Ok, Err, Result, OnOk, refl, sym, ap, subst, ◌∙◌, append_assoc, arith, AllByRecursion, list_any, IsPermutation, eq_by_cmp, IsPermutation-refl, IsPermutation-trans, IsPermutation-cons, IsPermutation-map, IsPermutation-sym, list_any-IsPermutation, all-permutation, IsDistinct-IsPermutation, and_parts, and_from, false_from_ne_true, leb-true, ltb-true, le-leb, lt-ltb, bytes_eq-Decides, Int, Blob, Row, Error, State, IsLeast, IsLawfulSpan, Id, Ids, id_cmp, Beside, Span, id_cmp_total, span_rows, stored_span, shown_spans, begins_at, touches, Moves, AreRowsOf, Records}
+use Rattle.std.proofs.Common.{IfSome}
+use Rattle.std.specs.List.{IsDistinct}
 use Rattle.std.specs.FinSet as set
-use Rattle.std.specs.Ordering.{eq_by_cmp}
-use Rattle.std.proofs.lemmas.List.Sorted.{IsPermutation-refl, IsPermutation-trans, IsPermutation-cons, IsPermutation-map, IsPermutation-sym, IsPermutation-middle, list_any-IsPermutation}
-use Rattle.sqlite_trees.proofs.ListLemmas.{all-permutation}
-use Rattle.std.proofs.lemmas.Map.Keys.{IsDistinct-IsPermutation}
+use Rattle.std.proofs.lemmas.List.Sorted.{IsPermutation-middle}
 use Rattle.std.proofs.Math.Bool.{or-true}
-use Rattle.std.proofs.lemmas.Bool.{and_parts, and_from, false_from_ne_true, leb-true, ltb-true, le-leb, lt-ltb}
-use Rattle.std.proofs.lemmas.Slice.Eq.{bytes_eq-Decides}
-use Rattle.sqlite_value.specs.declared.value.Value.TheVariants.{Int, Blob}
-use Rattle.sqlite_value.specs.Order.{Row}
-use Rattle.sqlite.specs.declared.error.Error.{Error}
-use Rattle.sqlite.specs.State.{State}
-use Rattle.gtid.specs.Span.{IsLeast, IsLawfulSpan, is_in}
+use Rattle.gtid.specs.Span.{is_in}
 use Rattle.gtid.specs.Beside.{one_or_none, joined, Joins}
-use Rattle.gtid.specs.Identifier.{Id, Ids, id_cmp}
-use Rattle.gtid.specs.declared.beside.Beside.{Beside}
-use Rattle.gtid.specs.declared.span.Span.{Span}
-use Rattle.gtid.proofs.Sets.{id_cmp_total}
-use Rattle.store.specs.Rows.{span_rows, stored_span, shown_spans, begins_at, touches}
-use Rattle.store.specs.Inside.{Moves, Begins, AreRowsOf, Shows, Records}
+use Rattle.store.specs.Inside.{Begins, Shows}
 use Rattle.store.proofs.Effects.{own_id}
-use Rattle.store.proofs.Made.{goes_then}
+use Rattle.store.proofs.BetweenCalls.{goes_then}
 use Rattle.store.proofs.RowLemmas.{own_bytes, same_int}
 use Rattle.store.proofs.SpanRows.{flips}
 use Rattle.store.proofs.SortedSpans.{IsSome, IsClear, all_some, all_clear, all_distinct, without}

@@ -1,26 +1,14 @@
 -- The sets that rows of spans and of executed are.
-use Rattle.std.proofs.Common.{◌≡◌, ◌<◌, ◌≤◌, ◌-◌, ◌^◌, inl, inr, Bool, true, false, not, ◌&&◌, nat_le, nat_lt, bytes_eq, List, [], ◌∷◌, map, None, Some, Ok, Err, Result, IfOk, IfErr, OnOk, refl, sym, ap, subst, ◌∙◌, arith}
-use Rattle.std.specs.List.{AllByRecursion, IsDistinct, list_any}
-use Rattle.std.specs.List.Sorted.{IsPermutation}
+use Rattle.store.proofs.Names.{◌≡◌, ◌<◌, ◌≤◌, ◌-◌, ◌^◌, inl, inr, Bool, true, false, not, ◌&&◌, nat_le, nat_lt, bytes_eq, List, [], ◌∷◌, map, None, Some, Ok, Err, Result, IfOk, IfErr, OnOk, refl, sym, ap, subst, ◌∙◌, arith, AllByRecursion, list_any, IsPermutation, eq_by_cmp, and_parts, cases_Bool, leb-true, le-leb, ltb-true, not-true, not-false, IsPermutation-map, IsPermutation-sym, list_any-IsPermutation, IsDistinct-IsPermutation, bytes_eq-Decides, Row, Id, Ids, IsSource, IsGtid, id_cmp, IsLeast, IsLawfulSpan, Span, id_cmp_total, id_cmp-same, StoreFault, Memory, IsSpanRow, IsExecutedRow, HasRowids, AreSpans, touches, stored_span, shown_span, shown_spans, span_in, id_in, span_of_id, Judges}
+use Rattle.std.specs.List.{IsDistinct}
 use Rattle.std.specs.FinSet as set
-use Rattle.std.specs.Ordering.{eq_by_cmp}
-use Rattle.std.proofs.lemmas.Bool.{and_cases, and_parts, cases_Bool, leb-true, leb-false, le-leb, ltb-true, not-true, not-false}
-use Rattle.std.proofs.lemmas.List.Sorted.{IsPermutation-map, IsPermutation-sym, list_any-IsPermutation}
-use Rattle.std.proofs.lemmas.Map.Keys.{IsDistinct-IsPermutation}
-use Rattle.std.proofs.lemmas.Slice.Eq.{bytes_eq-Decides}
-use Rattle.sqlite_value.specs.Order.{Row}
-use Rattle.gtid.specs.Identifier.{Id, Ids, IsSource, IsGtid, id_cmp}
-use Rattle.gtid.specs.Span.{is_in, Covers, IsBefore, IsLeast, IsLawfulSpan}
+use Rattle.std.proofs.lemmas.Bool.{and_cases, leb-false}
+use Rattle.gtid.specs.Span.{is_in, Covers, IsBefore}
 use Rattle.gtid.specs.Gathering.{SpansRise, ComesAfter}
-use Rattle.gtid.specs.declared.span.Span.{Span}
-use Rattle.gtid.proofs.Sets.{id_cmp_total, id_cmp-same, tied}
+use Rattle.gtid.proofs.Sets.{tied}
 use Rattle.gtid.proofs.SomeLeastList.{one_number}
-use Rattle.binlog.proofs.Admitted.{bytes_eq-sym}
-use Rattle.store.specs.declared.fault.StoreFault.{StoreFault}
-use Rattle.store.specs.declared.fault.StoreFault.TheVariants.{Memory}
-use Rattle.store.specs.Rows.{IsSpanRow, IsExecutedRow, HasRowids, AreSpans, touches, stored_span, shown_span, shown_spans, span_in, id_in}
-use Rattle.store.specs.Judge.{span_of_id, apart_from}
-use Rattle.store.specs.Load.{Judges}
+use Rattle.binlog.proofs.TableSets.{bytes_eq-sym}
+use Rattle.store.specs.Judge.{apart_from}
 use Rattle.store.proofs.Steps.{fault_by}
 use Rattle.store.proofs.SortedSpans.{all_distinct, sorted_of}
 

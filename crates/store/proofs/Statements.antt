@@ -1,37 +1,24 @@
 -- What each statement on one row does, where it succeeds.
-use Rattle.std.proofs.Common.{◌≡◌, ◌⊎◌, inl, inr, ℕ, ℤ, pos, Option, Some, slice_get, List, [], ◌∷◌, map, filter, Bool, true, false, cond, None, Ok, Err, Result, IfOk, OnOk, ◌++◌, ◌/◌, length, suc, unwrap_or, refl, sym, ap, subst, ◌∙◌}
-use Rattle.std.specs.List.{AllByRecursion, list_all}
-use Rattle.std.specs.List.Sorted.{IsPermutation}
-use Rattle.sqlite_value.specs.declared.value.Value.{Value}
-use Rattle.sqlite_value.specs.declared.value.Value.TheVariants.{Null, Int, Blob}
-use Rattle.sqlite_value.specs.Order.{Row, column}
-use Rattle.sqlite_trees.specs.Tree.{Trees}
+use Rattle.store.proofs.Names.{◌≡◌, ◌⊎◌, inl, inr, ℕ, ℤ, pos, Option, Some, slice_get, List, [], ◌∷◌, map, filter, Bool, true, false, cond, None, Ok, Err, Result, IfOk, OnOk, ◌++◌, length, suc, unwrap_or, refl, sym, ap, subst, ◌∙◌, AllByRecursion, list_all, IsPermutation, Value, Null, Int, Blob, Row, Trees, overlay, Term, col, eval_all, Table, Schema, Enforced, Column, Command, Insert, Update, Select, Values, Edit, edit_of, Chosen, Given, Error, Database, IsDatabase, SparesFrozen, Tally, State, Executes, IsUnchanged, runs_as, IsPlain, IsLaidOut, IsFound, IsApart, held_at, held_tree, read_text, insert_text, insert_eight_text, update_text, delete_text, has_key, has_count, spans_tree, add_span_text, drop_span_text, set_end_text, has_start, Key, is_at, has_n, begins_at, shown_span}
+use Rattle.std.proofs.Common.{◌/◌}
+use Rattle.sqlite_value.specs.Order.{column}
 use Rattle.sqlite_sql.specs.Ops.{unary}
-use Rattle.sqlite_sql.specs.Program.{overlay}
-use Rattle.sqlite_sql.specs.Term.{Term, col, eval_all, holds}
-use Rattle.sqlite_schema.specs.declared.schema.Table.{Table}
-use Rattle.sqlite_schema.specs.declared.schema.Schema.{Schema}
-use Rattle.sqlite_schema.specs.declared.schema.Keys.TheVariants.{Enforced}
+use Rattle.sqlite_sql.specs.Term.{holds}
 use Rattle.sqlite_rules.specs.Calls.{ids_of}
 use Rattle.sqlite_schema.specs.declared.schema.Kind.TheVariants.{Integer}
-use Rattle.sqlite_schema.specs.declared.schema.Column.{Column}
 use Rattle.sqlite_schema.specs.declared.program.Program.{Program}
-use Rattle.sqlite_schema.specs.declared.command.Command.{Command}
-use Rattle.sqlite_schema.specs.declared.command.Command.TheVariants.{Insert, Update, Delete, Select}
-use Rattle.sqlite_schema.specs.declared.command.Source.TheVariants.{Values}
+use Rattle.sqlite_schema.specs.declared.command.Command.TheVariants.{Delete}
 use Rattle.sqlite_rules.specs.Cast.{cast}
-use Rattle.sqlite_rules.specs.Edit.{Edit, edit_of, taken_by, Applies}
-use Rattle.sqlite_rules.specs.declared.error.Rowids.TheVariants.{Chosen, Given}
-use Rattle.sqlite.specs.declared.error.Error.{Error}
-use Rattle.sqlite.specs.Effect.{Database, IsDatabase, SparesFrozen, Answers, value_rows}
+use Rattle.sqlite_rules.specs.Edit.{taken_by, Applies}
+use Rattle.sqlite.specs.Effect.{Answers, value_rows}
 use Rattle.sqlite.specs.Rows.{Part, Task, Written}
 use Rattle.sqlite.specs.declared.run.Mode.{Mode}
-use Rattle.sqlite.specs.Does.{Tally, Does, OnTable, OnRows, WritesRows, AtPlace}
+use Rattle.sqlite.specs.Does.{Does, OnTable, OnRows, WritesRows, AtPlace}
 use Rattle.sqlite.specs.Listing.{understood}
-use Rattle.sqlite.specs.State.{State, Writes, mode_of, Executes, Shown, IsUnchanged, Shows as Sees}
-use Rattle.sqlite.proofs.Callers.{statement_of, runs_as, reads_as, one_step, IsPlain}
-use Rattle.store.specs.Layout.{IsLaidOut, IsFound, IsApart, keyed, among, held_at, held_tree, read_text, insert_text, insert_eight_text, update_text, delete_text, has_key, has_count, read_query, insert_terms, insert_eight_terms, spans_at, spans_tree, add_span_text, drop_span_text, set_end_text, has_start, add_span_terms}
-use Rattle.store.specs.Rows.{Key, key_of, is_at, has_n, begins_at, shown_span}
+use Rattle.sqlite.specs.State.{Writes, mode_of, Shown, Shows as Sees}
+use Rattle.sqlite.proofs.Callers.{statement_of, reads_as, one_step}
+use Rattle.store.specs.Layout.{keyed, among, read_query, insert_terms, insert_eight_terms, spans_at, add_span_terms}
+use Rattle.store.specs.Rows.{key_of}
 use Rattle.store.proofs.AnySchema.{Means, read_means, insert_means, insert_eight_means, update_means, delete_means, add_span_means, drop_span_means, set_end_means}
 use Rattle.store.proofs.Selects.{key_params, key_holds, count_holds, start_holds, answers, stored_read}
 use Rattle.store.proofs.Works.{no_works}

@@ -1,19 +1,9 @@
 -- Tables that are read one after the other.
-use Rattle.std.proofs.Common.{◌≡◌, inl, inr, List, ℕ, refl, sym, subst, ◌∙◌, arith}
-use Rattle.std.proofs.Common.{pos, map}
-use Rattle.std.specs.List.{AllByRecursion}
+use Rattle.store.proofs.Names.{◌≡◌, inl, inr, List, ℕ, refl, sym, subst, ◌∙◌, arith, pos, map, AllByRecursion, IsDatabase, Trees, State, HasCleanDisk, IsLive, IsUnchanged, Survives, StoreFault, Ids, Names, Damaged, Content, IsLaidOut, IsFirstLaidOut, meta_rows, held_rows, span_rows, follow_rows, IsHeldRow, IsExecutedRow, HasRowids, AreNames, AreSpans, StandsFor, StandsForFirst, id_in, bag_of, count, AsksAll, Rested}
 use Rattle.std.specs.FinSet as set
-use Rattle.sqlite.specs.Effect.{Database as Db, IsDatabase}
-use Rattle.sqlite_trees.specs.Tree.{Trees}
-use Rattle.sqlite.specs.State.{State, HasCleanDisk, IsLive, IsUnchanged, Survives}
-use Rattle.store.specs.declared.fault.StoreFault.{StoreFault}
-use Rattle.gtid.specs.Identifier.{Ids}
-use Rattle.binlog.specs.Filter.{Names}
-use Rattle.store.specs.declared.fault.StoreFault.TheVariants.{Damaged}
-use Rattle.store.specs.State.{Content}
-use Rattle.store.specs.Layout.{IsLaidOut, IsFirstLaidOut}
-use Rattle.store.specs.Rows.{meta_rows, held_rows, span_rows, follow_rows, executed_rows, IsHeldRow, IsExecutedRow, HasRowids, AreNames, AreSpans, StandsFor, StandsForFirst, id_in, bag_of, count}
-use Rattle.store.specs.Load.{StatesLayout, AsksAll, Rested, OnDamaged, IsLoaded, IsFirstLoaded}
+use Rattle.sqlite.specs.Effect.{Database as Db}
+use Rattle.store.specs.Rows.{executed_rows}
+use Rattle.store.specs.Load.{StatesLayout, OnDamaged, IsLoaded, IsFirstLoaded}
 use Rattle.store.proofs.Keeps.{kept_unchanged, kept_then}
 
 pub rested_unchanged : (a b : State) → IsUnchanged a b → Rested a b

@@ -1,27 +1,16 @@
 -- A row that was put in has a key that no row had.
-use Rattle.std.proofs.Common.{◌≡◌, inl, inr, ℕ, ℤ, List, [], ◌∷◌, filter, Bool, true, false, ◌&&◌, IsTrue, refl, sym, ap, ap₂, subst, ◌∙◌}
-use Rattle.std.specs.List.{AllByRecursion, IsDistinct, list_any}
-use Rattle.std.proofs.Math.Bool.{and-true}
-use Rattle.std.proofs.lemmas.Bool.{or_parts, and_parts, not-true, eq-eqb}
-use Rattle.std.specs.Ordering.{is_eq, is_ne, match_ordering}
-use Rattle.std.specs.declared.cmp.Ordering.{Ordering}
-use Rattle.std.specs.declared.cmp.Ordering.TheVariants.{Less, Equal, Greater}
-use Rattle.sqlite_value.specs.declared.value.Value.TheVariants.{Int}
-use Rattle.sqlite_value.specs.Keys.{plain, first_key}
-use Rattle.sqlite_value.specs.Order.{Row, column, value_cmp}
+use Rattle.store.proofs.Names.{◌≡◌, inl, inr, ℕ, ℤ, List, [], ◌∷◌, filter, Bool, true, false, ◌&&◌, IsTrue, refl, sym, ap, ap₂, subst, ◌∙◌, AllByRecursion, list_any, and-true, or_parts, and_parts, not-true, eq-eqb, is_eq, match_ordering, Ordering, Less, Equal, Greater, Int, plain, Row, Trees, rowid, put_row, is_int, Schema, clashes, is_taken, all_has, int_is, IsSound, IsLaidOut, held_at, held_tree, Key, HasRowids, alike, is_blob, is_at}
+use Rattle.std.specs.List.{IsDistinct}
+use Rattle.std.specs.Ordering.{is_ne}
+use Rattle.sqlite_value.specs.Keys.{first_key}
+use Rattle.sqlite_value.specs.Order.{column, value_cmp}
 use Rattle.sqlite_sql.specs.Ops.{binary}
-use Rattle.sqlite_trees.specs.Tree.{Trees, rowid, put_row}
-use Rattle.sqlite_trees.specs.View.{is_int}
-use Rattle.sqlite_schema.specs.declared.schema.Schema.{Schema}
 use Rattle.sqlite_schema.specs.declared.schema.Constraint.TheVariants.{Unique}
-use Rattle.sqlite_schema.specs.Rules.{agree, differ, clashes, passes}
+use Rattle.sqlite_schema.specs.Rules.{agree, differ, passes}
 use Rattle.sqlite_rules.specs.Lists.{Has}
-use Rattle.sqlite_rules.specs.Edit.{is_taken, id_in}
-use Rattle.sqlite_rules.proofs.ListLemmas.{all_has, test_has}
-use Rattle.sqlite_rules.proofs.TableLemmas.{int_is}
-use Rattle.sqlite_catalog.specs.Listing.{IsSound, IsGuarded, automatic}
-use Rattle.store.specs.Layout.{IsLaidOut, held_at, held_tree}
-use Rattle.store.specs.Rows.{Key, HasRowids, alike, is_blob, is_at}
+use Rattle.sqlite_rules.specs.Edit.{id_in}
+use Rattle.sqlite_rules.proofs.ListLemmas.{test_has}
+use Rattle.sqlite_catalog.specs.Listing.{IsGuarded, automatic}
 use Rattle.store.proofs.AnyWhole.{has_index}
 use Rattle.store.proofs.RowLemmas.{blob_is, turned}
 use Rattle.store.proofs.Selects.{shown_bool, equals_blob}

@@ -1,24 +1,16 @@
 -- The verdict on rows of held that come one at a time, and what reading them leaves.
-use Rattle.std.proofs.Common.{inl, ◌++◌, ℕ, List, [], ◌∷◌, ℤ, Option, None, Some, Result, Ok, Err, IfOk, refl, subst, sym, append_assoc, append-nil, arith}
-use Rattle.std.specs.List.{AllByRecursion}
-use Rattle.std.specs.List.Sorted.{IsPermutation}
-use Rattle.sqlite_trees.specs.declared.store.Store.{Ghosts}
-use Rattle.sqlite.specs.Effect.{Database, IsDatabase}
-use Rattle.sqlite.specs.State.{State, IsLive, IsUnchanged, Survives, CommitsShowing}
-use Rattle.sqlite.specs.Held.{Held, state}
-use Rattle.sqlite.specs.Given.{HasGiven, HasBegun, Advances}
-use Rattle.sqlite.proofs.Callers.{unchanged_then, begun_plain}
-use Rattle.sqlite.proofs.StateLemmas.{survives_then}
-use Rattle.sqlite_value.specs.Order.{Row}
+use Rattle.store.proofs.Names.{inl, ◌++◌, ℕ, List, [], ◌∷◌, ℤ, Option, None, Some, Result, Ok, Err, IfOk, refl, subst, sym, append_assoc, append-nil, arith, AllByRecursion, IsPermutation, Ghosts, Database, IsDatabase, State, IsLive, IsUnchanged, Survives, Held, Advances, unchanged_then, survives_then, Row, IsHeldRow, HasRowids, RowidsRise, StoreFault, AsksAll, Judges, OnSeen, Rested, all_held_text}
+use Rattle.sqlite.specs.State.{CommitsShowing}
+use Rattle.sqlite.specs.Held.{state}
+use Rattle.sqlite.specs.Given.{HasGiven, HasBegun}
+use Rattle.sqlite.proofs.Callers.{begun_plain}
 use Rattle.sqlite_trees.proofs.ListLemmas.{all-append}
 use Rattle.store.specs.declared.table.held.Verdict.{Verdict}
 use Rattle.store.specs.declared.table.held.Verdict.TheVariants.{Lawful, Unordered, Unlawful}
-use Rattle.store.specs.Rows.{IsHeldRow, HasRowids}
-use Rattle.store.specs.Judge.{RowidsRise, HasVerdict, HasOrder}
-use Rattle.store.specs.declared.fault.StoreFault.{StoreFault}
-use Rattle.store.specs.Load.{AsksAll, Judges, OnSeen, Rested, HasJudged, IsJudging, all_held_text}
-use Rattle.store.proofs.Judging.{rise_rowids}
-use Rattle.store.proofs.Loading.{held_table, on_seen}
+use Rattle.store.specs.Judge.{HasVerdict, HasOrder}
+use Rattle.store.specs.Load.{HasJudged, IsJudging}
+use Rattle.store.proofs.RowChecks.{rise_rowids}
+use Rattle.store.proofs.TableQueries.{held_table, on_seen}
 use Rattle.store.proofs.Readings.{all_rows, all_survives}
 use Rattle.store.proofs.Steps.{rested_after, still_asks}
 

@@ -1,7 +1,6 @@
 -- The whole tables that the texts ask for.
-use Rattle.sqlite_schema.specs.declared.schema.Schema.{Schema}
-use Rattle.store.specs.Layout.{executed_tree, held_tree, spans_tree, follow_tree, meta_tree, HasMeta, IsLaidOut, IsFirstLaidOut}
-use Rattle.store.specs.Load.{AsksAll, all_meta_text, all_held_text, all_spans_text, all_follow_text, all_executed_text}
+use Rattle.store.proofs.Names.{Schema, executed_tree, held_tree, spans_tree, follow_tree, meta_tree, HasMeta, IsLaidOut, IsFirstLaidOut, AsksAll, all_meta_text, all_held_text}
+use Rattle.store.specs.Load.{all_spans_text, all_follow_text, all_executed_text}
 use Rattle.store.proofs.AnyWhole.{all_meta_asks, all_executed_asks, all_held_asks, all_spans_asks, all_follow_asks}
 
 -- ---- of layout 1

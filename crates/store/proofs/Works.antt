@@ -1,16 +1,10 @@
 -- No foreign key acts on a write of the store.
-use Rattle.std.proofs.Common.{◌≡◌, ◌≢◌, ◌⊎◌, inl, inr, ℕ, ◌==◌, List, [], ◌∷◌, Bool, true, false, cond, ◌&&◌, Some, None, Option, IfSome, length, refl, ap, ◌∙◌}
-use Rattle.std.proofs.lemmas.Bool.{ne_eqb}
-use Rattle.std.specs.List.{AllByRecursion, filter_map, flat_map}
-use Rattle.sqlite_value.specs.Order.{Row}
-use Rattle.sqlite_schema.specs.declared.schema.Table.{Table}
-use Rattle.sqlite_schema.specs.declared.schema.Schema.{Schema}
-use Rattle.sqlite_schema.specs.declared.schema.Reference.{Reference}
-use Rattle.sqlite_schema.specs.declared.schema.Keys.TheVariants.{Enforced}
-use Rattle.sqlite_schema.specs.Rules.{ParentKey, parent_key}
+use Rattle.store.proofs.Names.{◌≡◌, ◌≢◌, ◌⊎◌, inl, inr, ℕ, ◌==◌, List, [], ◌∷◌, Bool, true, false, cond, ◌&&◌, Some, None, Option, length, refl, ap, ◌∙◌, ne_eqb, AllByRecursion, Row, Table, Schema, Reference, Enforced, parent_key, IsApart}
+use Rattle.std.proofs.Common.{IfSome}
+use Rattle.std.specs.List.{filter_map, flat_map}
+use Rattle.sqlite_schema.specs.Rules.{ParentKey}
 use Rattle.sqlite_rules.specs.declared.action.Deed.{Deed}
 use Rattle.sqlite_rules.specs.Action.{Work, works, work_for, work_by, deed_for, pairs}
-use Rattle.store.specs.Layout.{IsApart}
 
 apart_by : (tree : ℕ) (moves : List (Row × Row)) (child : Table) (ref : Reference) (deed : Option Deed) (key : Option ParentKey) → IfSome key (λ k. k.0 ≢ tree) → work_by 0 tree moves child ref deed key ≡ None
 apart_by tree moves child ref None key apart = refl

@@ -1,12 +1,9 @@
 -- Full packets at the front of bytes, and what follows them.
-use Rattle.std.proofs.Common.{◌≡◌, ℕ, zero, suc, ◌+◌, ◌*◌, ◌/◌, ◌%◌, ◌<◌, ◌≤◌, ◌^◌, ◌⊎◌, List, [], ◌∷◌, ◌++◌, length, get_or, drop, refl, ap, sym, subst, ◌∙◌, append_assoc, arith, length-append, inl, inr}
+use Rattle.wire.proofs.Names.{◌≡◌, ℕ, zero, suc, ◌+◌, ◌*◌, ◌/◌, ◌%◌, ◌<◌, ◌≤◌, ◌^◌, ◌⊎◌, List, [], ◌∷◌, ◌++◌, length, get_or, refl, ap, sym, subst, ◌∙◌, append_assoc, arith, length-append, inl, inr, take-append-drop, concat, AllByRecursion, little_bytes, packet, packets, IsFullChunk, HasHeader, IsUnfinished}
+use Rattle.std.proofs.Common.{drop}
 use Rattle.std.proofs.Math.Seq.{drop-append_seam}
-use Rattle.std.proofs.lemmas.List.{take-append-drop}
-use Rattle.std.specs.List.{concat, AllByRecursion}
 use Rattle.wire.proofs.Packets.{packets-push}
-use Rattle.byteorder.specs.Endian.{little_bytes}
-use Rattle.wire.specs.Packet.{full_chunk, packet, packets, IsFullChunk}
-use Rattle.wire.specs.Payload.{HasHeader, IsUnfinished}
+use Rattle.wire.specs.Packet.{full_chunk}
 
 -- n full packets from the id, and then the rest
 abbrev pub Chain : ℕ → ℕ → List ℕ → List ℕ → Type 0

@@ -1,9 +1,8 @@
 -- The full chunks at the front of a payload.
-use Rattle.std.proofs.Common.{◌≡◌, ℕ, zero, suc, ◌+◌, ◌*◌, ◌≤◌, List, [], ◌∷◌, ◌++◌, length, take, drop, refl, ap, sym, ◌∙◌, append_assoc, arith, length-drop}
-use Rattle.std.proofs.lemmas.List.{take-append-drop, take-append-le, drop-append-le, drop-drop, length-take-le}
-use Rattle.std.specs.List.{concat, AllByRecursion}
-use Rattle.wire.specs.Packet.{full_chunk, IsFullChunk}
-use Rattle.wire.specs.Held.{full_chunks}
+use Rattle.wire.proofs.Names.{◌≡◌, ℕ, zero, suc, ◌+◌, ◌*◌, ◌≤◌, List, [], ◌∷◌, ◌++◌, length, take, refl, ap, sym, ◌∙◌, append_assoc, arith, length-drop, take-append-drop, concat, AllByRecursion, IsFullChunk, full_chunks}
+use Rattle.std.proofs.Common.{drop}
+use Rattle.std.proofs.lemmas.List.{take-append-le, drop-append-le, drop-drop, length-take-le}
+use Rattle.wire.specs.Packet.{full_chunk}
 
 none : (n : ℕ) → 0 * n ≡ 0
 none n = omega arith

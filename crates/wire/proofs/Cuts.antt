@@ -1,11 +1,10 @@
 -- Bytes cut into parts.
-use Rattle.std.proofs.Common.{◌≡◌, ℕ, zero, suc, ◌+◌, ◌-◌, ◌<◌, ◌≤◌, ◌^◌, ◌%◌, ◌/◌, List, [], ◌∷◌, ◌++◌, length, get_or, take, drop, refl, sym, ap, ◌∙◌, append_assoc, arith}
+use Rattle.wire.proofs.Names.{◌≡◌, ℕ, zero, suc, ◌+◌, ◌-◌, ◌<◌, ◌≤◌, ◌^◌, ◌%◌, ◌/◌, List, [], ◌∷◌, ◌++◌, length, get_or, take, refl, sym, ap, ◌∙◌, append_assoc, arith, take-append-drop, AllByRecursion, little_bytes, little_number}
+use Rattle.std.proofs.Common.{drop}
 use Rattle.std.proofs.Math.Seq.{drop-cons, drop-append-add}
-use Rattle.std.proofs.lemmas.List.{drop-drop, get_or-drop, take-append-drop, take_rest}
+use Rattle.std.proofs.lemmas.List.{drop-drop, get_or-drop, take_rest}
 use Rattle.std.proofs.Math.Nat.{div-div-eq-div-mul, div-one, pow-suc}
 use Rattle.std.specs.Int.{bytes_low_first, byte_at}
-use Rattle.std.specs.List.{AllByRecursion}
-use Rattle.byteorder.specs.Endian.{little_bytes, little_number}
 use Rattle.byteorder.specs.Numbers.{little_from-cons, little_number-reads_back}
 
 abbrev pub IsBytes : List ℕ → Type 0

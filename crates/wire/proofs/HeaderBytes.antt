@@ -1,8 +1,6 @@
 -- Headers of packets, as bytes and as numbers.
-use Rattle.std.proofs.Common.{◌≡◌, ℕ, ◌/◌, ◌%◌, ◌<◌, List, [], ◌∷◌, length, get_or, arith}
-use Rattle.byteorder.specs.Endian.{little_number}
+use Rattle.wire.proofs.Names.{◌≡◌, ℕ, ◌/◌, ◌%◌, ◌<◌, List, [], ◌∷◌, length, get_or, arith, little_number, IsHeader}
 use Rattle.wire.specs.Packet.{full_chunk}
-use Rattle.wire.specs.Header.{IsHeader}
 
 -- four bytes are a header
 pub is_header : (header : List ℕ) (size got : ℕ) → length header ≡ 4 → ((i : ℕ) → get_or header i 0 < 256) →

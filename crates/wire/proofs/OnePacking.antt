@@ -1,10 +1,8 @@
 -- A payload has one packing, and the packings of two payloads are not prefixes of one another.
-use Rattle.std.proofs.Common.{◌≡◌, ℕ, suc, ◌+◌, ◌*◌, ◌/◌, ◌%◌, ◌<◌, ◌≤◌, ◌^◌, List, [], ◌∷◌, ◌++◌, length, get_or, take, drop, refl, ap, sym, ◌∙◌, append_assoc, arith, length-append, length-drop, length-take}
-use Rattle.std.proofs.Math.Seq.{drop-append_seam, take-append_seam}
-use Rattle.std.specs.List.{concat, AllByRecursion}
-use Rattle.byteorder.specs.Endian.{little_bytes}
-use Rattle.wire.specs.Packet.{full_chunk, packet, packets, IsFullChunk, IsPacking, packing_length}
-use Rattle.wire.specs.Held.{full_chunks}
+use Rattle.wire.proofs.Names.{◌≡◌, ℕ, suc, ◌+◌, ◌*◌, ◌/◌, ◌%◌, ◌<◌, ◌≤◌, ◌^◌, List, [], ◌∷◌, ◌++◌, length, get_or, take, refl, ap, sym, ◌∙◌, append_assoc, arith, length-append, length-drop, length-take, take-append_seam, concat, AllByRecursion, little_bytes, packet, packets, IsFullChunk, full_chunks}
+use Rattle.std.proofs.Common.{drop}
+use Rattle.std.proofs.Math.Seq.{drop-append_seam}
+use Rattle.wire.specs.Packet.{full_chunk, IsPacking, packing_length}
 use Rattle.wire.proofs.Packets.{packets-push}
 use Rattle.wire.proofs.Chunks.{full_chunks_full, concat-full_chunks}
 use Rattle.wire.proofs.Chain.{peel, full_fits, short_fits, packets_length, concat_length}

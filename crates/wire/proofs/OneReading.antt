@@ -1,12 +1,7 @@
 -- A stream has only one reading, in whatever pieces it is read.
-use Rattle.std.proofs.Common.{◌≡◌, ℕ, zero, suc, ◌+◌, ◌*◌, ◌%◌, ◌<◌, ◌≤◌, ◌^◌, ◌⊎◌, List, [], ◌∷◌, ◌++◌, length, refl, ap, sym, subst, ◌∙◌, append_assoc, arith, length-append, length-take, inl, inr}
-use Rattle.std.proofs.lemmas.List.{append-nil}
-use Rattle.std.proofs.Math.Seq.{take-append_seam}
-use Rattle.std.specs.List.{concat}
-use Rattle.byteorder.specs.Endian.{little_bytes}
-use Rattle.wire.specs.Packet.{full_chunk, packet, packets}
-use Rattle.wire.specs.Payload.{HasHeader, IsOutOfSequence, IsTooLarge, IsUnfinished, IsWholePayload}
-use Rattle.wire.specs.Stream.{Ending, Held, OutOfSequence, TooLarge, IsEnding, IsStream, Runs, stopped, held_all, handed_out, out_of_sequence, too_large}
+use Rattle.wire.proofs.Names.{◌≡◌, ℕ, zero, suc, ◌+◌, ◌*◌, ◌%◌, ◌<◌, ◌≤◌, ◌^◌, ◌⊎◌, List, [], ◌∷◌, ◌++◌, length, refl, ap, sym, subst, ◌∙◌, append_assoc, arith, length-append, length-take, inl, inr, append-nil, take-append_seam, concat, little_bytes, packet, packets, HasHeader, IsOutOfSequence, IsTooLarge, IsUnfinished, IsWholePayload, Ending, Held, OutOfSequence, TooLarge}
+use Rattle.wire.specs.Packet.{full_chunk}
+use Rattle.wire.specs.Stream.{IsEnding, IsStream, Runs, stopped, held_all, handed_out, out_of_sequence, too_large}
 use Rattle.wire.proofs.Packets.{packets-push}
 use Rattle.wire.proofs.Chain.{Chain, chain_of, chain_split, order, peel, full_fits, short_fits, size_fits, same_header, header_chain, concat_length}
 use Rattle.wire.proofs.OnePacking.{none_begins, length_packing}

@@ -1,9 +1,8 @@
 -- A packing as it grows, packet by packet.
-use Rattle.std.proofs.Common.{◌≡◌, ℕ, suc, ◌+◌, ◌%◌, ◌<◌, List, [], ◌∷◌, ◌++◌, length, refl, ap, sym, ◌∙◌, append_assoc, arith}
-use Rattle.std.proofs.lemmas.List.{append-nil, length_push}
+use Rattle.wire.proofs.Names.{◌≡◌, ℕ, suc, ◌+◌, ◌%◌, ◌<◌, List, [], ◌∷◌, ◌++◌, length, refl, ap, sym, ◌∙◌, append_assoc, arith, append-nil, concat, AllByRecursion, packet, packets, IsFullChunk}
+use Rattle.std.proofs.lemmas.List.{length_push}
 use Rattle.std.proofs.lemmas.List.Folds.{concat-append}
-use Rattle.std.specs.List.{concat, AllByRecursion}
-use Rattle.wire.specs.Packet.{full_chunk, packet, packets, IsFullChunk, AppendsPacking}
+use Rattle.wire.specs.Packet.{full_chunk, AppendsPacking}
 
 mod-mod : (n : ℕ) → n % 256 % 256 ≡ n % 256
 mod-mod n = omega arith

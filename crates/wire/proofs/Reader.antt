@@ -1,8 +1,7 @@
 -- A reader in the middle of a stream that comes in pieces.
-use Rattle.std.proofs.Common.{◌≡◌, ℕ, List, [], ◌∷◌, ◌++◌, take, drop, ap, sym, subst, ◌∙◌, append_assoc}
-use Rattle.std.proofs.lemmas.List.{take-append-drop, append-nil}
-use Rattle.wire.specs.Payload.{IsWholePayload, IsUnfinished, IsOutOfSequence, IsTooLarge}
-use Rattle.wire.specs.Stream.{Ending, Held, OutOfSequence, TooLarge, Runs, stopped, held_all, handed_out, out_of_sequence, too_large}
+use Rattle.wire.proofs.Names.{◌≡◌, ℕ, List, [], ◌∷◌, ◌++◌, take, ap, sym, subst, ◌∙◌, append_assoc, take-append-drop, append-nil, IsWholePayload, IsUnfinished, IsOutOfSequence, IsTooLarge, Ending, Held, OutOfSequence, TooLarge}
+use Rattle.std.proofs.Common.{drop}
+use Rattle.wire.specs.Stream.{Runs, stopped, held_all, handed_out, out_of_sequence, too_large}
 
 -- These payloads were handed out of the pieces, and whatever the reader makes of the remaining pieces goes on from
 -- there.

@@ -1,13 +1,10 @@
 -- Each stream of bytes has a reading.
-use Rattle.std.proofs.Common.{◌≡◌, ◌≢◌, ℕ, zero, suc, ◌+◌, ◌-◌, ◌*◌, ◌/◌, ◌%◌, ◌<◌, ◌≤◌, ◌⊎◌, List, [], ◌∷◌, ◌++◌, length, take, drop, refl, ap, sym, subst, ◌∙◌, append_assoc, arith, length-append, length-drop, inl, inr}
-use Rattle.std.proofs.lemmas.List.{take-append-drop, length-take-le, length_push}
+use Rattle.wire.proofs.Names.{◌≡◌, ℕ, zero, suc, ◌+◌, ◌-◌, ◌*◌, ◌/◌, ◌%◌, ◌<◌, ◌≤◌, ◌⊎◌, List, [], ◌∷◌, ◌++◌, length, take, refl, ap, sym, subst, ◌∙◌, append_assoc, arith, length-append, length-drop, inl, inr, take-append-drop, concat, AllByRecursion, little_bytes, packet, packets, IsFullChunk, IsHeader, HasHeader, IsWholePayload, Ending, Held, OutOfSequence, TooLarge}
+use Rattle.std.proofs.Common.{◌≢◌, drop}
+use Rattle.std.proofs.lemmas.List.{length-take-le, length_push}
 use Rattle.std.proofs.lemmas.Bool.{cases_lt}
-use Rattle.std.specs.List.{concat, AllByRecursion}
-use Rattle.byteorder.specs.Endian.{little_bytes}
-use Rattle.wire.specs.Packet.{full_chunk, packet, packets, IsFullChunk}
-use Rattle.wire.specs.Header.{IsHeader}
-use Rattle.wire.specs.Payload.{HasHeader, IsWholePayload}
-use Rattle.wire.specs.Stream.{Ending, Held, OutOfSequence, TooLarge, IsEnding, IsStream}
+use Rattle.wire.specs.Packet.{full_chunk}
+use Rattle.wire.specs.Stream.{IsEnding, IsStream}
 use Rattle.wire.proofs.Packets.{packets-push, all-push}
 use Rattle.wire.proofs.Chunks.{one_more}
 use Rattle.wire.proofs.Chain.{Chain, chain_of, IsOpen, Scanned, unfinished, size_fits, concat_length}

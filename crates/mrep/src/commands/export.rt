@@ -7,7 +7,7 @@ ghost use Rattle.std.specs.Prelude.{◌≡◌, IfOk};
 
 use crate::commands::copy::{Target, fill, make_file};
 use crate::database::description::read_description;
-use crate::database::open::export_from;
+use crate::database::exporter::{Source, export_rows};
 use crate::report::failure::{DONE, Failure, over_file};
 use clap::ArgMatches;
 use command_line::{parse_schema, parse_tables, word};
@@ -103,8 +103,12 @@ fn fill_from<'a>(
 ) -> Result<Vec<u8>, Failure<'a>> {
     fill(rt, target, from, source)?;
     let Target { db, to, .. } = target;
-    let (copy, made) = (source.names.file.as_str(), part.names.file.as_str());
-    let notes = export_from(rt, copy, made, to, db, export)?;
+    let copied = Source {
+        copy: source.names.file.as_str(),
+        to,
+        db,
+    };
+    let notes = export_rows(rt, copied, part.names.file.as_str(), export)?;
     match finish(part, source) {
         Ok(()) => Ok(notes),
         Err(cause) => Err(Failure::File { name: to, cause }),

@@ -1,6 +1,6 @@
 //! `mrep follow`: a source followed over a socket.
 
-ghost use Rattle.std.specs.Prelude.{◌≤◌, IfOk};
+ghost use Rattle.std.specs.Prelude.{◌≤◌, ⊤, IfOk};
 
 use crate::database::open::{closed, opened, opening};
 use crate::report::failure::{Failure, MEMORY, over_file, write_failure};
@@ -12,7 +12,7 @@ use command_line::{parse_number, word};
 use files::{others_may_read, read_password};
 use formats::Shown;
 use gtid::GtidSet;
-use replica::{Config, ConfigFault, Ended, FollowedFile, Observer, Until, follow_file};
+use replica::{Config, ConfigFault, Connect, Ended, FollowedFile, Observer, Until, follow_file};
 use reports::{Pulse, Socket, Watch};
 use sqlite_disk::Unknown;
 use std::alloc::AllocError;
@@ -203,8 +203,17 @@ impl<'r> Host<'r> {
             pulse: pulse.clone()?,
         })
     }
+}
 
-    fn connect(self) -> io::Result<Socket<'r>> {
+/// Nothing is specified of what a host gives.
+impl<'r> Connect for Host<'r> {
+    type Stream = Socket<'r>;
+
+    type Error = io::Error;
+
+    ghost gives = { λ _ _ _. ⊤ };
+
+    fn connect(self, _executed: &GtidSet) -> io::Result<Socket<'r>> {
         match TcpStream::connect(self.rt, (unbracketed(self.name), self.port)) {
             Ok(stream) => Ok(Socket::new(self.rt, stream, self.pulse)),
             Err(cause) => Err(cause),
@@ -222,8 +231,7 @@ fn follow_over<'a, W: Observer>(
     let rt = host.rt;
     let Following { only, config } = following;
     let opening = opening(rt, db)?;
-    let connect = move || host.connect();
-    let done = follow_file(rt, db, Unknown, only.as_ref(), config, connect, observer);
+    let done = follow_file(rt, db, Unknown, only.as_ref(), config, host, observer);
     let FollowedFile {
         connection,
         closed: files,

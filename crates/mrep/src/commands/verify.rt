@@ -2,19 +2,16 @@
 
 ghost use Rattle.std.specs.Prelude.{◌≤◌, IfOk};
 
-use crate::commands::jobs::run_job;
+use crate::commands::note_if_made;
+use crate::commands::show::show_rows;
 use crate::database::description::read_tables;
-use crate::database::job::Job;
 use crate::database::printer::Selection;
 use crate::report::failure::{DONE, Failure, MEMORY, REFUSED};
-use binlog::Follow;
 use clap::ArgMatches;
 use command_line::{parse_tables, word};
-use files::Input;
+use files::{Input, has_bytes};
 use formats::{Chosen, Encoding, Format, compare};
-use std::alloc::Global;
 use std::io::{Read, Write};
-use typed_rows::DescribedTables;
 
 /// Prints the rows that one side lacks: `<` before those that the file has alone, `>` before those that the database has
 /// alone. The status is 0 if there are none, and 1 otherwise.
@@ -34,29 +31,24 @@ pub fn verify<'a, W: Write, E: Write>(
         return Err(Failure::Tables { name, fault });
     }
     let text = read_text(rt, file)?;
-    let job = show_all(rt.alloc(), only, described)?;
+    let selection = Selection {
+        chosen: Chosen::new(rt.alloc(), only)?,
+        format: Format::Tsv,
+        encoding: Encoding::Base64,
+    };
     let mut printed = Vec::new(rt.alloc());
-    run_job(rt, db, job, &mut printed, err)?;
+    let is_missing = !has_bytes(rt, db);
+    let shown = show_rows(rt, db, selection, Some(&described), &mut printed, err);
+    if is_missing {
+        note_if_made(rt, db, out, err);
+    }
+    shown?;
     let found = compare(rt.alloc(), &text, &printed, out)?;
     if found.are_none() {
         return Ok(DONE);
     }
     found.note(file, db, err);
     Ok(REFUSED)
-}
-
-/// The job that prints all rows of these tables as the `mysql` client does.
-fn show_all<'a>(
-    alloc: Global,
-    only: Follow,
-    described: DescribedTables,
-) -> Result<Job<'a>, Failure<'a>> {
-    let selection = Selection {
-        chosen: Chosen::new(alloc, only)?,
-        format: Format::Tsv,
-        encoding: Encoding::Base64,
-    };
-    Ok(Job::Show(selection, Some(described)))
 }
 
 /// All of a file, or of standard input.

@@ -2,106 +2,139 @@
 
 ghost use Rattle.std.specs.Prelude.{◌≡◌, false};
 
-use crate::database::open::FileOf;
+use crate::database::open::{FileOf, listed, unopened_copy};
 use crate::report::failure::Failure;
+use binlog::Follow;
 use formats::{Chosen, Shown};
 use gtid::GtidSet;
-use sqlite::{Alter, Connection, Error, ErrorCode};
+use replica::{ListedFile, Lister, Unopened, list_file};
+use sqlite::{Alter, Connection, Error, ErrorCode, File};
+use sqlite_disk::Unknown;
 use std::alloc::Global;
 use std::io;
 use std::io::Write;
-use store::{ListError, Listed, Store, StoreFault, Visitor};
-use typed_rows::{Export, ExportedRows, TableError, note_left_out};
+use store::{Listed, StoreFault, Visitor};
+use typed_rows::{Export, ExportedRows, TableError, Tables, note_left_out};
 
-/// Which tables are made, and where.
-#[derive(Drop)]
-pub struct Exporter<'a> {
-    /// The name of the file that is made.
+/// A copy of a database: its path, and the names of the file that is made and of the database in failures.
+#[derive(Clone, Copy)]
+pub struct Source<'p, 'a> {
+    pub copy: &'p str,
     pub to: &'a str,
-    pub export: Export,
-    /// The new database.
-    pub conn: Connection<FileOf>,
+    pub db: &'a str,
 }
 
-/// Makes tables, adds the rows to them, and closes their database. Prints which tables the filter leaves out, and of which that
-/// are named there was no row.
-pub fn export_rows<'a, S: Alter, W: Write>(
-    alloc: Global,
-    name: &'a str,
-    store: &mut Store<S>,
-    exporter: Exporter<'a>,
-    out: &mut W,
-) -> Result<(), Failure<'a>> {
-    let Exporter {
-        to,
-        export,
-        mut conn,
-    } = exporter;
+/// Makes tables of a new database in an empty file, whose path is `part`, with the rows of a copy of a database, and closes both.
+/// Returns what is to be reported: that the database has no transaction, which tables its filter leaves out, and of which that are
+/// named there was no row.
+pub fn export_rows<'a>(
+    rt: &HostRuntime,
+    source: Source<'_, 'a>,
+    part: &str,
+    export: Export,
+) -> Result<Vec<u8>, Failure<'a>> {
+    let Source { to, db, .. } = source;
+    let Export { tables, chosen } = export;
+    let mut conn = match Connection::open(rt, part) {
+        Ok(conn) => conn,
+        Err(cause) => return Err(of_sqlite(to, cause)),
+    };
     if !conn.is_autocommit() {
         return Err(of_sqlite(to, Error::SqliteFailure(ErrorCode::TransactionState)));
     }
-    note_emptiness(alloc, name, store, &export, out)?;
-    let chosen = add_rows(alloc, [name, to], store, &mut conn, export)?;
+    let found = add_rows(rt, source, &tables, chosen, &mut conn)?;
     match conn.close() {
-        Ok(()) => {
-            chosen.note_missing(name, out)?;
-            Ok(())
-        }
-        Err(cause) => Err(of_sqlite(to, cause)),
+        Ok(()) => {}
+        Err(cause) => return Err(of_sqlite(to, cause)),
     }
+    let mut notes = Vec::new(rt.alloc());
+    found.note(&tables, db, &mut notes)?;
+    Ok(notes)
 }
 
-/// Reports that a database has no transaction, or of which tables that are made it keeps no rows.
-fn note_emptiness<S: Alter, W: Write>(
-    alloc: Global,
-    name: &str,
-    store: &Store<S>,
-    export: &Export,
-    out: &mut W,
-) -> io::Result<()> {
-    if store.executed().is_subset(&GtidSet::new(alloc)) {
-        return writeln!(out, "mrep: {}: it has no transaction", Shown(name));
-    }
-    note_left_out(&export.tables, name, store.following(), out)
-}
-
-/// Makes tables and adds the rows to them. The names are those of the database and of the file that is made.
-fn add_rows<'a, S: Alter, T: Alter>(
-    alloc: Global,
-    names: [&'a str; 2],
-    store: &mut Store<S>,
-    conn: &mut Connection<T>,
-    export: Export,
-) -> Result<Chosen, Failure<'a>>
+/// Makes tables and adds the rows of a copy of a database to them.
+fn add_rows<'a>(
+    rt: &HostRuntime,
+    source: Source<'_, 'a>,
+    tables: &Tables,
+    chosen: Chosen,
+    conn: &mut Connection<FileOf>,
+) -> Result<Found, Failure<'a>>
     requires { conn.old.in_transaction ≡ false }
 {
-    let Export { tables, chosen } = export;
-    let rows = match ExportedRows::begin(alloc, &tables, chosen, conn) {
+    let Source { copy, to, db } = source;
+    let rows = match ExportedRows::begin(rt.alloc(), tables, chosen, conn) {
         Ok(rows) => rows,
-        Err(cause) => return Err(of_sqlite(names[1], cause)),
+        Err(cause) => return Err(of_sqlite(to, cause)),
     };
-    let mut added = Added { rows };
-    match store.list(&mut added) {
+    let mut added = Added {
+        alloc: rt.alloc(),
+        rows,
+        is_empty: true,
+        following: Follow::all(rt.alloc()),
+    };
+    let done = match list_added(rt, copy, &mut added) {
+        Ok(done) => done,
+        Err(unopened) => return Err(unopened_copy(rt, copy, to, db, unopened)),
+    };
+    match listed(db, to, done)? {
         Ok(()) => {}
-        Err(ListError::Store(cause)) => {
-            return Err(Failure::Database {
-                name: names[0],
-                cause,
-            });
-        }
-        Err(ListError::Visitor(error)) => return Err(of_tables(names, error)),
+        Err(error) => return Err(of_tables([db, to], error)),
     }
-    let Added { rows } = added;
+    let Added {
+        rows,
+        is_empty,
+        following,
+        ..
+    } = added;
     match rows.finish() {
-        Ok(chosen) => Ok(chosen),
-        Err(error) => Err(of_tables(names, error)),
+        Ok(chosen) => Ok(Found {
+            chosen,
+            is_empty,
+            following,
+        }),
+        Err(error) => Err(of_tables([db, to], error)),
+    }
+}
+
+/// Gives a database to what adds its rows to tables.
+fn list_added<T: Alter>(
+    rt: &HostRuntime,
+    copy: &str,
+    added: &mut Added<'_, '_, T>,
+) -> Result<ListedFile<TableError, File>, Unopened<File>> {
+    list_file(rt, copy, Unknown, added)
+}
+
+/// What a database was found to have.
+#[derive(Drop)]
+struct Found {
+    /// Of which tables there was a row.
+    chosen: Chosen,
+    /// Whether it has no transaction.
+    is_empty: bool,
+    following: Follow,
+}
+
+impl Found {
+    /// Reports of which tables there was no row, and why.
+    fn note<W: Write>(&self, tables: &Tables, db: &str, out: &mut W) -> io::Result<()> {
+        if self.is_empty {
+            writeln!(out, "mrep: {}: it has no transaction", Shown(db))?;
+        } else {
+            note_left_out(tables, db, &self.following, out)?;
+        }
+        self.chosen.note_missing(db, out)
     }
 }
 
 /// Adds the rows of a list to tables.
 #[derive(Drop)]
 struct Added<'d, 'c, T: Alter> {
+    alloc: Global,
     rows: ExportedRows<'d, 'c, T>,
+    is_empty: bool,
+    following: Follow,
 }
 
 impl<T: Alter> Visitor for Added<'_, '_, T> {
@@ -111,6 +144,21 @@ impl<T: Alter> Visitor for Added<'_, '_, T> {
 
     fn row(&mut self, row: &Listed<'_>) -> Result<(), TableError> {
         self.rows.row(row.schema, row.table, row.count, &row.image)
+    }
+}
+
+impl<T: Alter> Lister for Added<'_, '_, T> {
+    ghost begun = { λ _ _ _ _ _. Unit {0} };
+
+    fn begin(&mut self, executed: &GtidSet, following: &Follow) -> Result<bool, TableError> {
+        self.is_empty = executed.is_subset(&GtidSet::new(self.alloc));
+        match Follow::new(self.alloc, following.names()) {
+            Ok(following) => {
+                self.following = following;
+                Ok(true)
+            }
+            Err(_) => Err(TableError::Database(Error::SqliteFailure(ErrorCode::OutOfMemory))),
+        }
     }
 }
 
@@ -124,7 +172,7 @@ fn of_tables<'a>(names: [&'a str; 2], error: TableError) -> Failure<'a> {
 }
 
 /// The failure of the database that is made.
-pub fn of_sqlite<'a>(name: &'a str, cause: Error) -> Failure<'a> {
+fn of_sqlite<'a>(name: &'a str, cause: Error) -> Failure<'a> {
     match cause {
         Error::SqliteFailure(ErrorCode::OutOfMemory) => Failure::Memory,
         _ => Failure::Database {

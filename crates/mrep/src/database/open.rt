@@ -1,19 +1,13 @@
 //! Opening and closing a database file.
 
-ghost use Rattle.std.specs.Prelude.{◌≡◌, Ok, IfOk};
-
-use crate::database::exporter::{Exporter, of_sqlite};
-use crate::database::job::{Done, Job};
 use crate::report::failure::{Failure, of_file, over_file};
 use files::{LOCKED, Opening, is_file, missing_wal, opening_fault, reading_fault, remove_unused};
-use replica::{Unopened, close_file, open_file};
+use replica::{ListedFile, Lister, Unopened, close_file, list_file, open_file};
 use sqlite::{Alter, Connection, Error, ErrorCode, File, FileStore, Files};
 use sqlite_disk::Unknown;
 use sqlite_std_file::OpenError;
 use std::alloc::Global;
-use std::io::Write;
-use store::{Damage, Store, StoreFault};
-use typed_rows::Export;
+use store::{Damage, ListError, StoreFault};
 
 /// A store in a database file.
 pub type FileOf = FileStore<File>;
@@ -41,78 +35,63 @@ impl<'a> Place<'a, 'a> {
     }
 }
 
-/// Opens the database in a file, which is made if it does not exist, with its own filter, does a job with its store, and closes
-/// it.
-pub fn work_on<'a, W: Write>(
+/// Gives the database in a file, which is made if it does not exist, with its own filter, to a lister, and closes it. Where that
+/// ends with an error of the lister, that is the result.
+pub fn list_in<'a, L: Lister>(
     rt: &HostRuntime,
     name: &'a str,
-    job: Job<'a>,
-    out: &mut W,
-) -> Result<Done, Failure<'a>> {
+    lister: &mut L,
+) -> Result<Result<(), L::Error>, Failure<'a>> {
     let opening = opening(rt, name)?;
-    match work_in(rt, Place::named(name), opening.wal, job, out) {
-        Ok(done) => Ok(done),
-        Err(failure) => {
-            opening.lock.discard(rt, name);
-            Err(failure)
-        }
+    let done = list_file(rt, name, Unknown, lister);
+    listed(name, name, opened(rt, name, opening, done)?)
+}
+
+/// What giving a database to a lister has come to. A failure of the list names the database, and one of closing it, which comes
+/// second, the file.
+pub fn listed<'a, E: Drop>(
+    db: &'a str,
+    file: &'a str,
+    done: ListedFile<E, File>,
+) -> Result<Result<(), E>, Failure<'a>> {
+    let ListedFile {
+        listed,
+        closed: files,
+    } = done;
+    let files = closed(file, files);
+    match listed {
+        Ok(()) => match files {
+            Ok(()) => Ok(Ok(())),
+            Err(failure) => Err(failure),
+        },
+        Err(ListError::Store(cause)) => Err(Failure::Database { name: db, cause }),
+        Err(ListError::Visitor(error)) => Ok(Err(error)),
     }
 }
 
 /// Opens and closes a copy of a database in a file, which copies its WAL file back into it. A failure names the file that is
 /// to be made, or the database where that is what cannot be used.
 pub fn test<'a>(rt: &HostRuntime, copy: &str, to: &'a str, db: &'a str) -> Result<(), Failure<'a>> {
-    let place = Place {
-        path: copy,
-        file: to,
-        content: db,
-    };
-    work_in(rt, place, None, Job::Nothing, &mut Vec::new(rt.alloc()))?;
-    Ok(())
+    match open_file(rt, copy, Unknown, 0, None) {
+        Ok(store) => closed(to, close_file(store)),
+        Err(unopened) => Err(unopened_copy(rt, copy, to, db, unopened)),
+    }
 }
 
-/// Makes tables of a new database in an empty file, with the rows of a copy of a database, and closes both: `copy` and `part` are
-/// the paths. Returns what is to be reported of tables without rows.
-pub fn export_from<'a>(
+/// The failure of a copy of a database that could not be opened, whose files are closed.
+pub fn unopened_copy<'a>(
     rt: &HostRuntime,
     copy: &str,
-    part: &str,
     to: &'a str,
     db: &'a str,
-    export: Export,
-) -> Result<Vec<u8>, Failure<'a>> {
-    let conn = match Connection::open(rt, part) {
-        Ok(conn) => conn,
-        Err(cause) => return Err(of_sqlite(to, cause)),
-    };
+    unopened: Unopened<File>,
+) -> Failure<'a> {
     let place = Place {
         path: copy,
         file: to,
         content: db,
     };
-    let job = Job::Export(Exporter { to, export, conn });
-    let mut notes = Vec::new(rt.alloc());
-    work_in(rt, place, None, job, &mut notes)?;
-    Ok(notes)
-}
-
-/// Opens the database at a place, whose WAL file is the one given if that was missing before, does a job with its store, and
-/// closes it. A function that hands a store in a file on to a generic one takes long to prove, so there is this one alone.
-fn work_in<'a, W: Write>(
-    rt: &HostRuntime,
-    place: Place<'_, 'a>,
-    wal: Option<String>,
-    job: Job<'a>,
-    out: &mut W,
-) -> Result<Done, Failure<'a>> {
-    match open_file(rt, place.path, Unknown, 0, None) {
-        Ok(store) => {
-            let mut store = store;
-            let done = job.run(rt.alloc(), place.content, &mut store, out);
-            close_after(place.file, store, done)
-        }
-        Err(unopened) => Err(refusal(rt, place, leave(rt, wal, unopened))),
-    }
+    refusal(rt, place, leave(rt, None, unopened))
 }
 
 /// Takes the name of a database for one that is opened by it next.
@@ -238,20 +217,6 @@ fn refusal<'a>(rt: &HostRuntime, place: Place<'_, 'a>, cause: Cause) -> Failure<
             cause,
         },
     }
-}
-
-/// Closes the file after what was done over it. A failure of that comes before one of the closing.
-fn close_after<'a, T: Drop>(
-    name: &'a str,
-    store: Store<FileOf>,
-    done: Result<T, Failure<'a>>,
-) -> Result<T, Failure<'a>>
-    ensures { IfOk result (λ value. done.entry ≡ Ok value) }
-{
-    let closed = closed(name, close_file(store));
-    let value = done?;
-    closed?;
-    Ok(value)
 }
 
 /// Whether the files were closed.

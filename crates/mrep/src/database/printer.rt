@@ -1,12 +1,18 @@
 //! The rows of a database, in one of the formats, and how many there are of each table.
 
+use crate::database::open::{list_in, listed, opened, opening};
 use crate::report::failure::{Failure, of_row};
-use formats::{Chosen, Encoding, Format, Records, Tallies, write_object, write_row};
-use sqlite::Alter;
+use binlog::Follow;
+use formats::{Chosen, Encoding, Format, Records, Tallies, write_object};
+use gtid::GtidSet;
+use replica::{ListedFile, Lister, Unopened, list_file};
+use reports::TextRows;
+use sqlite::File;
+use sqlite_disk::Unknown;
 use std::alloc::Global;
 use std::io;
 use std::io::Write;
-use store::{ListError, Listed, Store, Visitor};
+use store::{Listed, Visitor};
 use typed_rows::{DescribedTables, Layout, RowError, TypedRows};
 
 /// Which rows are printed, and how.
@@ -20,51 +26,121 @@ pub struct Selection {
 
 /// Prints rows, with the number of copies or as often as there are, those of described tables with names and types if there are any.
 /// Returns of which of the tables there was a row.
-pub fn print_rows<'a, S: Alter, W: Write>(
-    alloc: Global,
+pub fn print_rows<'a, W: Write>(
+    rt: &HostRuntime,
     name: &'a str,
-    store: &mut Store<S>,
     selection: Selection,
     described: Option<&DescribedTables>,
     out: &mut W,
 ) -> Result<Chosen, Failure<'a>> {
     if let Some(tables) = described {
-        return print_typed(alloc, name, store, tables, selection, out);
+        return print_typed(rt, name, tables, selection, out);
     }
-    if selection.format == Format::Csv {
-        return print_records(alloc, name, store, selection, out);
+    match selection.format {
+        Format::Csv => print_records(rt, name, selection, out),
+        Format::Json => print_objects(rt, name, selection, out),
+        _ => print_lines(rt, name, selection.chosen, out),
     }
-    print_lines(alloc, name, store, selection, out)
+}
+
+/// Prints a line of text for each row.
+fn print_lines<'a, W: Write>(
+    rt: &HostRuntime,
+    name: &'a str,
+    chosen: Chosen,
+    out: &mut W,
+) -> Result<Chosen, Failure<'a>> {
+    let mut rows = TextRows::new(chosen, out);
+    list_in(rt, name, &mut rows)??;
+    Ok(rows.chosen())
+}
+
+/// Prints a JSON object for each row.
+fn print_objects<'a, W: Write>(
+    rt: &HostRuntime,
+    name: &'a str,
+    selection: Selection,
+    out: &mut W,
+) -> Result<Chosen, Failure<'a>> {
+    let mut objects = Objects {
+        alloc: rt.alloc(),
+        selection,
+        out,
+    };
+    list_in(rt, name, &mut objects)??;
+    let Objects { selection, .. } = objects;
+    Ok(selection.chosen)
+}
+
+/// Prints a record for each row.
+fn print_records<'a, W: Write>(
+    rt: &HostRuntime,
+    name: &'a str,
+    selection: Selection,
+    out: &mut W,
+) -> Result<Chosen, Failure<'a>> {
+    let mut all = CsvRows {
+        alloc: rt.alloc(),
+        selection,
+        records: Records::new(out),
+    };
+    list_in(rt, name, &mut all)??;
+    let CsvRows {
+        selection,
+        mut records,
+        ..
+    } = all;
+    records.flush()?;
+    Ok(selection.chosen)
+}
+
+/// Prints the filter, and a line for each table with rows.
+pub fn print_tallies<'a, W: Write>(
+    rt: &HostRuntime,
+    name: &'a str,
+    out: &mut W,
+) -> Result<(), Failure<'a>> {
+    let mut counts = Counts {
+        tallies: Tallies::new(rt.alloc(), out),
+    };
+    list_in(rt, name, &mut counts)??;
+    counts.tallies.write_last()?;
+    Ok(())
 }
 
 /// Prints rows whose columns are described.
-fn print_typed<'a, S: Alter, W: Write>(
-    alloc: Global,
+fn print_typed<'a, W: Write>(
+    rt: &HostRuntime,
     name: &'a str,
-    store: &mut Store<S>,
     tables: &DescribedTables,
     selection: Selection,
     out: &mut W,
 ) -> Result<Chosen, Failure<'a>> {
-    let single = selection.chosen.single();
     let layout = Layout {
         format: selection.format,
         encoding: selection.encoding,
-        is_one: single.is_some(),
+        is_one: selection.chosen.single().is_some(),
     };
-    let mut rows = TypedRows::new(alloc, tables, layout, out);
-    rows.begin(single)?;
     let mut all = Typed {
         chosen: selection.chosen,
-        rows,
+        rows: TypedRows::new(rt.alloc(), tables, layout, out),
     };
-    match store.list(&mut all) {
-        Ok(()) => {}
-        Err(ListError::Store(cause)) => return Err(Failure::Database { name, cause }),
-        Err(ListError::Visitor(error)) => return Err(of_row(name, error)),
-    }
+    let opening = opening(rt, name)?;
+    let done = list_typed(rt, name, &mut all);
     let Typed { chosen, .. } = all;
-    Ok(chosen)
+    match listed(name, name, opened(rt, name, opening, done)?)? {
+        Ok(()) => Ok(chosen),
+        Err(error) => Err(of_row(name, error)),
+    }
+}
+
+/// Gives a database to what prints rows whose columns are described.
+fn list_typed<W: Write>(
+    rt: &HostRuntime,
+    name: &str,
+    all: &mut Typed<'_, '_, W>,
+) -> Result<ListedFile<RowError, File>, Unopened<File>> {
+    list_file(rt, name, Unknown, all)
 }
 
 /// Writes the lines of rows whose columns are described.
@@ -88,69 +164,24 @@ impl<W: Write> Visitor for Typed<'_, '_, W> {
     }
 }
 
-/// Prints a line of text or a JSON object for each row.
-fn print_lines<'a, S: Alter, W: Write>(
-    alloc: Global,
-    name: &'a str,
-    store: &mut Store<S>,
-    selection: Selection,
-    out: &mut W,
-) -> Result<Chosen, Failure<'a>> {
-    let mut lines = Lines {
-        alloc,
-        selection,
-        out,
-    };
-    list(name, store, &mut lines)?;
-    let Lines { selection, .. } = lines;
-    Ok(selection.chosen)
-}
+impl<W: Write> Lister for Typed<'_, '_, W> {
+    ghost begun = { λ _ _ _ _ _. Unit {0} };
 
-/// Prints a record for each row.
-fn print_records<'a, S: Alter, W: Write>(
-    alloc: Global,
-    name: &'a str,
-    store: &mut Store<S>,
-    selection: Selection,
-    out: &mut W,
-) -> Result<Chosen, Failure<'a>> {
-    let mut all = CsvRows {
-        alloc,
-        selection,
-        records: Records::new(out),
-    };
-    list(name, store, &mut all)?;
-    let CsvRows {
-        selection,
-        mut records,
-        ..
-    } = all;
-    records.flush()?;
-    Ok(selection.chosen)
-}
-
-/// Hands the rows of a database to a visitor that prints them.
-fn list<'a, S: Alter, V: Visitor<Error = io::Error>>(
-    name: &'a str,
-    store: &mut Store<S>,
-    visitor: &mut V,
-) -> Result<(), Failure<'a>> {
-    match store.list(visitor) {
-        Ok(()) => Ok(()),
-        Err(ListError::Store(cause)) => Err(Failure::Database { name, cause }),
-        Err(ListError::Visitor(cause)) => Err(Failure::Output(cause)),
+    fn begin(&mut self, _executed: &GtidSet, _following: &Follow) -> Result<bool, RowError> {
+        self.rows.begin(self.chosen.single())?;
+        Ok(true)
     }
 }
 
-/// Writes a line of text or a JSON object for each row.
+/// Writes a JSON object for each row.
 #[derive(Drop)]
-struct Lines<'o, W> {
+struct Objects<'o, W> {
     alloc: Global,
     selection: Selection,
     out: &'o mut W,
 }
 
-impl<W: Write> Visitor for Lines<'_, W> {
+impl<W: Write> Visitor for Objects<'_, W> {
     type Error = io::Error;
 
     ghost row_gives = { λ _ _ _ _. Unit {0} };
@@ -159,18 +190,23 @@ impl<W: Write> Visitor for Lines<'_, W> {
         if !self.selection.chosen.takes(row.schema, row.table) {
             return Ok(());
         }
-        if self.selection.format == Format::Json {
-            return write_object(
-                self.alloc,
-                row.schema,
-                row.table,
-                row.count,
-                &row.image,
-                self.selection.encoding,
-                self.out,
-            );
-        }
-        write_row(row.schema, row.table, row.count, &row.image, self.out)
+        write_object(
+            self.alloc,
+            row.schema,
+            row.table,
+            row.count,
+            &row.image,
+            self.selection.encoding,
+            self.out,
+        )
+    }
+}
+
+impl<W: Write> Lister for Objects<'_, W> {
+    ghost begun = { λ _ _ _ _ _. Unit {0} };
+
+    fn begin(&mut self, _executed: &GtidSet, _following: &Follow) -> io::Result<bool> {
+        Ok(true)
     }
 }
 
@@ -202,20 +238,12 @@ impl<W: Write> Visitor for CsvRows<'_, W> {
     }
 }
 
-/// Prints the filter, and a line for each table with rows.
-pub fn print_tallies<'a, S: Alter, W: Write>(
-    alloc: Global,
-    name: &'a str,
-    store: &mut Store<S>,
-    out: &mut W,
-) -> Result<(), Failure<'a>> {
-    let mut counts = Counts {
-        tallies: Tallies::new(alloc, out),
-    };
-    counts.tallies.begin(store.following())?;
-    list(name, store, &mut counts)?;
-    counts.tallies.write_last()?;
-    Ok(())
+impl<W: Write> Lister for CsvRows<'_, W> {
+    ghost begun = { λ _ _ _ _ _. Unit {0} };
+
+    fn begin(&mut self, _executed: &GtidSet, _following: &Follow) -> io::Result<bool> {
+        Ok(true)
+    }
 }
 
 /// Counts the rows of each table.
@@ -231,5 +259,14 @@ impl<W: Write> Visitor for Counts<'_, W> {
 
     fn row(&mut self, row: &Listed<'_>) -> io::Result<()> {
         self.tallies.count(row.schema, row.table, row.count)
+    }
+}
+
+impl<W: Write> Lister for Counts<'_, W> {
+    ghost begun = { λ _ _ _ _ _. Unit {0} };
+
+    fn begin(&mut self, _executed: &GtidSet, following: &Follow) -> io::Result<bool> {
+        self.tallies.begin(following)?;
+        Ok(true)
     }
 }

@@ -11,7 +11,7 @@ use files::FileFault;
 use first_copy::CopyFault;
 use formats::{Shown, write_named};
 use gtid::GtidFault;
-use replica::{ConfigFault, Unloadable};
+use replica::{ConfigFault, NoMemory, Unloadable};
 use reports::write_unloadable;
 use std::alloc::{AllocError, AllocFailed};
 use std::io;
@@ -295,6 +295,14 @@ impl From<AllocError> for Failure<'_> {
     ghost from_gives = { λ _ failure. failure ≡ variants.Memory };
 
     fn from(_error: AllocError) -> Self {
+        Failure::Memory
+    }
+}
+
+impl From<NoMemory> for Failure<'_> {
+    ghost from_gives = { λ _ failure. failure ≡ variants.Memory };
+
+    fn from(_error: NoMemory) -> Self {
         Failure::Memory
     }
 }

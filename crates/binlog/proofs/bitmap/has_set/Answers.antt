@@ -1,9 +1,7 @@
-use Rattle.std.proofs.Common.{◌≡◌, ℕ, ◌/◌, ◌%◌, ◌^◌, ◌<◌, false, List, length, get_or, ap, ◌∙◌, arith, inl, inr}
+use Rattle.binlog.proofs.Names.{◌≡◌, ℕ, ◌/◌, ◌%◌, ◌^◌, ◌<◌, false, List, length, get_or, ap, ◌∙◌, arith, inl, inr, cases_lt, is_set}
 use Rattle.std.specs.Prelude.{◌==◌}
 use Rattle.std.proofs.Math.Nat.{zero-div}
-use Rattle.std.proofs.lemmas.Bool.{cases_lt}
 use Rattle.std.proofs.lemmas.List.{get_or_past}
-use Rattle.binlog.specs.Row.{is_set}
 use Rattle.binlog.proofs.bitmap.has_set.Goals as goal
 
 -- no bit of zeros is set

@@ -1,6 +1,4 @@
-use Rattle.std.proofs.Common.{◌∙◌, sym, ap}
-use Rattle.std.proofs.lemmas.Bool.{ltb-true}
-use Rattle.binlog.specs.Cell.{is_null, owned_value}
+use Rattle.binlog.proofs.Names.{◌∙◌, sym, ap, ltb-true, is_null, owned_value}
 use Rattle.binlog.specs.RowsWritten.{digit}
 use Rattle.binlog.proofs.RowWriting.{null_there}
 use Rattle.binlog.proofs.bitmap.null_bit.Goals as goal

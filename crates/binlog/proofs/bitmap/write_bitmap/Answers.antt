@@ -1,11 +1,6 @@
-use Rattle.std.proofs.Common.{◌≡◌, ◌≤◌, ◌+◌, ◌++◌, ◌∙◌, length, map, ap, rules, arith}
-use Rattle.std.specs.List.{range_with_len}
-use Rattle.std.proofs.lemmas.List.{length-append}
-use Rattle.std.proofs.lemmas.List.FromFn.{length-map-range_with_len}
-use Rattle.binlog.specs.Cell.{is_null, owned_values}
-use Rattle.binlog.specs.Row.{bitmap_size}
-use Rattle.binlog.specs.RowsWritten.{bitmap_byte, bitmap_bytes}
-use Rattle.binlog.proofs.Kept.{kept, on_err}
+use Rattle.binlog.proofs.Names.{◌≡◌, ◌≤◌, ◌+◌, ◌++◌, ◌∙◌, length, map, ap, rules, arith, range_with_len, length-append, length-map-range_with_len, is_null, owned_values, bitmap_size, bitmap_byte}
+use Rattle.binlog.specs.RowsWritten.{bitmap_bytes}
+use Rattle.binlog.proofs.Prefixes.{kept, on_err}
 use Rattle.binlog.proofs.RowWriting.{byte_more, bits_length}
 use Rattle.binlog.proofs.bitmap.write_bitmap.Goals as goal
 

@@ -1,8 +1,4 @@
-use Rattle.std.proofs.Common.{◌≡◌, ◌++◌, map, ◌≤◌}
-use Rattle.std.specs.Prelude.{vec_capacity}
-use Rattle.std.specs.List.{range_with_len}
-use Rattle.binlog.specs.Cell.{is_null, owned_values}
-use Rattle.binlog.specs.RowsWritten.{bitmap_byte}
+use Rattle.binlog.proofs.Names.{◌≡◌, ◌++◌, map, ◌≤◌, vec_capacity, range_with_len, is_null, owned_values, bitmap_byte}
 use Rattle.binlog.proofs.bitmap.write_bitmap.Given as goal
 
 abbrev pub invariant-loop-i : goal.invariant-loop-i

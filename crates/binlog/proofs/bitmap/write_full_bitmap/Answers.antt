@@ -1,8 +1,6 @@
-use Rattle.std.proofs.Common.{◌≡◌, ◌++◌, ◌∷◌, [], ◌+◌, sym, ap, ◌∙◌, append_assoc, rules, arith}
-use Rattle.std.proofs.lemmas.List.{append-nil, take_all}
-use Rattle.binlog.specs.Writing.{full_bitmap}
+use Rattle.binlog.proofs.Names.{◌≡◌, ◌++◌, ◌∷◌, [], ◌+◌, sym, ap, ◌∙◌, append_assoc, rules, arith, append-nil, take_all, full_bitmap}
 use Rattle.binlog.proofs.FullBitmap.{bytes_from, from_first, one_byte, from_last}
-use Rattle.binlog.proofs.Kept.{kept_on, next_fits}
+use Rattle.binlog.proofs.Prefixes.{kept_on, next_fits}
 use Rattle.binlog.proofs.bitmap.write_full_bitmap.Goals as goal
 
 pub loop-j-init : goal.loop-j-init

@@ -1,6 +1,4 @@
-use Rattle.std.proofs.Common.{◌≡◌, ◌++◌, length, take, ◌≤◌}
-use Rattle.std.specs.Prelude.{vec_capacity}
-use Rattle.binlog.specs.Writing.{full_bitmap}
+use Rattle.binlog.proofs.Names.{◌≡◌, ◌++◌, length, take, ◌≤◌, vec_capacity, full_bitmap}
 use Rattle.binlog.proofs.FullBitmap.{bytes_from}
 use Rattle.binlog.proofs.bitmap.write_full_bitmap.Given as goal
 

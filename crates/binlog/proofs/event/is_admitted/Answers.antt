@@ -1,7 +1,6 @@
-use Rattle.std.proofs.Common.{◌∙◌, sym, ap}
-use Rattle.binlog.specs.Filter.{admits}
+use Rattle.binlog.proofs.Names.{◌∙◌, sym, ap, admits}
 use Rattle.binlog.specs.EventView.{filter_of}
-use Rattle.binlog.proofs.Admitted.{all_follow}
+use Rattle.binlog.proofs.TableSets.{all_follow}
 use Rattle.binlog.proofs.event.is_admitted.Goals as goal
 
 pub returns-in-None : goal.returns-in-None

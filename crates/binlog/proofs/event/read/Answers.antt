@@ -1,6 +1,5 @@
-use Rattle.std.proofs.Common.{◌∙◌, sym}
-use Rattle.std.proofs.lemmas.Option.{none-some}
-use Rattle.binlog.specs.EventView.{event_value, filter_of}
+use Rattle.binlog.proofs.Names.{◌∙◌, sym, none-some, event_value}
+use Rattle.binlog.specs.EventView.{filter_of}
 use Rattle.binlog.proofs.Events.{answered, if_event, if_err_by, after_header, header_refused, event_not_refused}
 use Rattle.binlog.proofs.event.read.Goals as goal
 

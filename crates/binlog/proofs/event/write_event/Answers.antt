@@ -1,8 +1,6 @@
-use Rattle.std.proofs.Common.{◌≡◌, ◌∙◌, ◌+◌, length, ap, arith}
-use Rattle.std.proofs.lemmas.List.{length-append}
-use Rattle.binlog.specs.EventView.{event_value}
+use Rattle.binlog.proofs.Names.{◌≡◌, ◌∙◌, ◌+◌, length, ap, arith, length-append, event_value}
 use Rattle.binlog.specs.Writing.{event_body}
-use Rattle.binlog.proofs.Written.{writable_short}
+use Rattle.binlog.proofs.EventBytes.{writable_short}
 use Rattle.binlog.proofs.event.write_event.Goals as goal
 
 pub frame-requires-clause-size : goal.frame-requires-clause-size

@@ -1,9 +1,5 @@
-use Rattle.std.proofs.Common.{◌≡◌, false, true, take, sym, subst, ◌∙◌, arith}
+use Rattle.binlog.proofs.Names.{◌≡◌, false, true, take, sym, subst, ◌∙◌, arith, false≢true, take_all, is_named_in, AreAmong, name_list}
 use Rattle.std.proofs.lemmas.Grind.{common_steps}
-use Rattle.std.proofs.lemmas.Bool.{false≢true}
-use Rattle.std.proofs.lemmas.List.{take_all}
-use Rattle.binlog.specs.Filter.{is_named_in, AreAmong}
-use Rattle.binlog.specs.FilterView.{name_list}
 use Rattle.binlog.proofs.SameNames.{among_more, among_at, one_on}
 use Rattle.binlog.proofs.filter.are_among.Goals as goal
 

@@ -1,6 +1,4 @@
-use Rattle.std.proofs.Common.{take}
-use Rattle.binlog.specs.Filter.{AreAmong}
-use Rattle.binlog.specs.FilterView.{name_list}
+use Rattle.binlog.proofs.Names.{take, AreAmong, name_list}
 use Rattle.binlog.proofs.filter.are_among.Given as goal
 
 abbrev pub invariant-loop-name : goal.invariant-loop-name

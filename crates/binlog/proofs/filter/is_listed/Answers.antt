@@ -1,7 +1,6 @@
-use Rattle.std.proofs.Common.{rules, ◌∙◌}
+use Rattle.binlog.proofs.Names.{rules, ◌∙◌, Name}
 use Rattle.std.proofs.lemmas.Fn.{always_returns_same}
-use Rattle.binlog.specs.Filter.{Name}
-use Rattle.binlog.proofs.NamesFound.{compares, searched}
+use Rattle.binlog.proofs.NamePlaces.{compares, searched}
 use Rattle.binlog.proofs.filter.is_listed.Goals as goal
 
 pub returns : goal.returns

@@ -1,5 +1,5 @@
 use Rattle.std.proofs.Common.{◌∙◌, sym, ap, take, drop, length}
-use Rattle.binlog.proofs.Framed.{framed}
+use Rattle.binlog.proofs.EventFrames.{framed}
 use Rattle.binlog.proofs.header.frame.Goals as goal
 
 pub returns : goal.returns

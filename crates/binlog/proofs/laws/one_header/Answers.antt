@@ -1,6 +1,5 @@
-use Rattle.std.proofs.Common.{get_or, drop}
-use Rattle.std.specs.Prelude.{nat_le}
-use Rattle.wire.proofs.Cuts.{IsBytes-all}
+use Rattle.binlog.proofs.Names.{get_or, nat_le, IsBytes-all}
+use Rattle.std.proofs.Common.{drop}
 use Rattle.binlog.proofs.Headers.{is_framed, stated, no_fault, one_frame}
 use Rattle.binlog.proofs.laws.one_header.Goals as goal
 

@@ -1,6 +1,4 @@
-use Rattle.std.proofs.Common.{length}
-use Rattle.binlog.specs.Rows.{items_of}
-use Rattle.wire.proofs.Cuts.{IsBytes-all}
+use Rattle.binlog.proofs.Names.{length, items_of, IsBytes-all}
 use Rattle.binlog.proofs.RowsItems as lemma
 use Rattle.binlog.proofs.laws.one_list_of_rows.Goals as goal
 

@@ -1,5 +1,4 @@
-use Rattle.binlog.specs.Row.{row_cells}
-use Rattle.wire.proofs.Cuts.{IsBytes-all}
+use Rattle.binlog.proofs.Names.{row_cells, IsBytes-all}
 use Rattle.binlog.proofs.RowCells as lemma
 use Rattle.binlog.proofs.RowEnds.{row_stops, row_stopped}
 use Rattle.binlog.proofs.laws.one_row.Goals as goal

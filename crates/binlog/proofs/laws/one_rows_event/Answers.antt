@@ -1,5 +1,4 @@
-use Rattle.std.proofs.Common.{refl}
-use Rattle.wire.proofs.Cuts.{IsBytes-all}
+use Rattle.binlog.proofs.Names.{refl, IsBytes-all}
 use Rattle.binlog.proofs.RowsHead as lemma
 use Rattle.binlog.proofs.laws.one_rows_event.Goals as goal
 

@@ -1,4 +1,4 @@
-use Rattle.binlog.proofs.RowsWritten as lemma
+use Rattle.binlog.proofs.RowBytes as lemma
 use Rattle.binlog.proofs.laws.written_rows.Goals as goal
 
 pub returns : goal.returns

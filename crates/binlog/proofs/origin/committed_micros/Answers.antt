@@ -1,6 +1,5 @@
-use Rattle.std.proofs.Common.{◌≡◌, ◌∙◌, ℕ, ◌-◌, ◌^◌, Some, drop, sym, ap, subst, inl, inr, arith}
-use Rattle.std.proofs.lemmas.List.{take_rest}
-use Rattle.byteorder.specs.Endian.{little_number}
+use Rattle.binlog.proofs.Names.{◌≡◌, ◌∙◌, ℕ, ◌-◌, ◌^◌, Some, sym, ap, subst, inl, inr, arith, take_rest, little_number}
+use Rattle.std.proofs.Common.{drop}
 use Rattle.binlog.specs.Origin.{IsCommittedAt}
 use Rattle.binlog.proofs.Origins.{is_committed_at, is_committed_again, committed_at}
 use Rattle.binlog.proofs.origin.committed_micros.Goals as goal

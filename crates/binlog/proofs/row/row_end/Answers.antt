@@ -1,7 +1,5 @@
-use Rattle.std.proofs.Common.{◌≡◌, ◌<◌, ◌≤◌, Ok, Err, length, take, drop, sym, subst, ◌∙◌, arith}
-use Rattle.std.proofs.lemmas.List.{take_rest}
-use Rattle.binlog.specs.Shape.{shape, value_end}
-use Rattle.binlog.specs.Row.{bitmap_size}
+use Rattle.binlog.proofs.Names.{◌≡◌, ◌<◌, ◌≤◌, Ok, Err, length, take, sym, subst, ◌∙◌, arith, take_rest, shape, value_end, bitmap_size}
+use Rattle.std.proofs.Common.{drop}
 use Rattle.binlog.proofs.RowCells.{Reached, short_bitmap, first_column, null_column, value_column, early_column}
 use Rattle.binlog.proofs.row.row_end.Goals as goal
 

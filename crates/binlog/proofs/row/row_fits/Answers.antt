@@ -1,9 +1,6 @@
-use Rattle.std.proofs.Common.{◌≡◌, ◌+◌, true, false, ◌&&◌, drop, refl, sym, ap, ◌∙◌, arith}
-use Rattle.binlog.specs.Cell.{owned_value, owned_values}
-use Rattle.binlog.specs.Row.{kinds}
-use Rattle.binlog.specs.RowsWritten.{value_fits, row_fits}
-use Rattle.binlog.specs.Shape.{shape}
-use Rattle.binlog.proofs.RowsWritten.{row_from, row_over, row_of_others}
+use Rattle.binlog.proofs.Names.{◌≡◌, ◌+◌, true, false, ◌&&◌, refl, sym, ap, ◌∙◌, arith, owned_value, owned_values, kinds, value_fits, row_fits, shape}
+use Rattle.std.proofs.Common.{drop}
+use Rattle.binlog.proofs.RowBytes.{row_from, row_over, row_of_others}
 use Rattle.binlog.proofs.row.row_fits.Goals as goal
 
 pub returns-then-types-cells : goal.returns-then-types-cells

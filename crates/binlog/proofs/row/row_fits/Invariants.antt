@@ -1,7 +1,5 @@
-use Rattle.std.proofs.Common.{◌≡◌, drop}
-use Rattle.binlog.specs.Cell.{owned_values}
-use Rattle.binlog.specs.Row.{kinds}
-use Rattle.binlog.specs.RowsWritten.{row_fits}
+use Rattle.binlog.proofs.Names.{◌≡◌, owned_values, kinds, row_fits}
+use Rattle.std.proofs.Common.{drop}
 use Rattle.binlog.proofs.row.row_fits.Given as goal
 
 abbrev pub invariant-loop-i : goal.invariant-loop-i

@@ -1,9 +1,4 @@
-use Rattle.std.proofs.Common.{◌≡◌, ◌++◌, ◌∙◌, OnErr, length, take, subst, sym, ap, arith}
-use Rattle.std.proofs.lemmas.List.{length-append}
-use Rattle.std.proofs.lemmas.Result.{err_from_is_err_and}
-use Rattle.binlog.specs.Cell.{owned_value, owned_values}
-use Rattle.binlog.specs.Row.{kinds}
-use Rattle.binlog.specs.RowsWritten.{value_bytes, values_bytes, value_fits}
+use Rattle.binlog.proofs.Names.{◌≡◌, ◌++◌, ◌∙◌, OnErr, length, take, subst, sym, ap, arith, length-append, err_from_is_err_and, owned_value, owned_values, kinds, value_bytes, values_bytes, value_fits}
 use Rattle.binlog.proofs.RowWriting.{still_kept, value_there, value_more, value_room, values_all}
 use Rattle.binlog.proofs.row.write_values.Goals as goal
 

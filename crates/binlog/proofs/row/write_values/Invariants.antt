@@ -1,8 +1,4 @@
-use Rattle.std.proofs.Common.{◌≡◌, ◌++◌, take, ◌≤◌}
-use Rattle.std.specs.Prelude.{vec_capacity}
-use Rattle.binlog.specs.Cell.{owned_values}
-use Rattle.binlog.specs.Row.{kinds}
-use Rattle.binlog.specs.RowsWritten.{values_bytes}
+use Rattle.binlog.proofs.Names.{◌≡◌, ◌++◌, take, ◌≤◌, vec_capacity, owned_values, kinds, values_bytes}
 use Rattle.binlog.proofs.row.write_values.Given as goal
 
 abbrev pub invariant-loop-i : goal.invariant-loop-i

@@ -1,9 +1,6 @@
-use Rattle.std.proofs.Common.{◌≡◌, ◌+◌, false, ◌&&◌, drop, refl, sym, ap, ◌∙◌}
-use Rattle.std.proofs.lemmas.Bool.{false≢true}
-use Rattle.binlog.specs.Row.{kinds}
-use Rattle.binlog.specs.RowsView.{owned_pairs}
-use Rattle.binlog.specs.RowsWritten.{pairs_fit}
-use Rattle.binlog.proofs.RowsWritten.{pairs_from, pairs_over, have_rows, have_no_rows}
+use Rattle.binlog.proofs.Names.{◌≡◌, ◌+◌, false, ◌&&◌, refl, sym, ap, ◌∙◌, false≢true, kinds, owned_pairs, pairs_fit}
+use Rattle.std.proofs.Common.{drop}
+use Rattle.binlog.proofs.RowBytes.{pairs_from, pairs_over, have_rows, have_no_rows}
 use Rattle.binlog.proofs.rows.rows_fit.Goals as goal
 
 pub loop-i-init : goal.loop-i-init

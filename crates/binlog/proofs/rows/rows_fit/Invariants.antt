@@ -1,7 +1,5 @@
-use Rattle.std.proofs.Common.{◌≡◌, drop}
-use Rattle.binlog.specs.Row.{kinds}
-use Rattle.binlog.specs.RowsView.{owned_pairs}
-use Rattle.binlog.specs.RowsWritten.{pairs_fit}
+use Rattle.binlog.proofs.Names.{◌≡◌, kinds, owned_pairs, pairs_fit}
+use Rattle.std.proofs.Common.{drop}
 use Rattle.binlog.proofs.rows.rows_fit.Given as goal
 
 abbrev pub invariant-loop-i : goal.invariant-loop-i

@@ -1,9 +1,4 @@
-use Rattle.std.proofs.Common.{◌≡◌, ◌++◌, ◌∙◌, OnErr, length, take, subst, sym, ap, arith}
-use Rattle.std.proofs.lemmas.List.{length-append}
-use Rattle.std.proofs.lemmas.Result.{err_from_is_err_and}
-use Rattle.binlog.specs.Row.{kinds}
-use Rattle.binlog.specs.RowsView.{owned_pairs}
-use Rattle.binlog.specs.RowsWritten.{rows_bytes}
+use Rattle.binlog.proofs.Names.{◌≡◌, ◌++◌, ◌∙◌, OnErr, length, take, subst, sym, ap, arith, length-append, err_from_is_err_and, kinds, owned_pairs, rows_bytes}
 use Rattle.binlog.proofs.RowWriting.{still_kept, pair_there, pair_more, pair_room, pairs_all}
 use Rattle.binlog.proofs.rows.write_pairs.Goals as goal
 

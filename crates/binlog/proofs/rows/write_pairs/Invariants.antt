@@ -1,8 +1,4 @@
-use Rattle.std.proofs.Common.{◌≡◌, ◌++◌, take, ◌≤◌}
-use Rattle.std.specs.Prelude.{vec_capacity}
-use Rattle.binlog.specs.Row.{kinds}
-use Rattle.binlog.specs.RowsView.{owned_pairs}
-use Rattle.binlog.specs.RowsWritten.{rows_bytes}
+use Rattle.binlog.proofs.Names.{◌≡◌, ◌++◌, take, ◌≤◌, vec_capacity, kinds, owned_pairs, rows_bytes}
 use Rattle.binlog.proofs.rows.write_pairs.Given as goal
 
 abbrev pub invariant-loop-pair : goal.invariant-loop-pair

@@ -1,6 +1,5 @@
-use Rattle.binlog.specs.Row.{kinds}
-use Rattle.binlog.specs.RowsView.{owned_pairs}
-use Rattle.binlog.proofs.RowsWritten.{they_fit}
+use Rattle.binlog.proofs.Names.{kinds, owned_pairs}
+use Rattle.binlog.proofs.RowBytes.{they_fit}
 use Rattle.binlog.proofs.rows.write_rows.Goals as goal
 
 pub write_pairs-requires : goal.write_pairs-requires

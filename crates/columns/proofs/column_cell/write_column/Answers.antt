@@ -1,7 +1,5 @@
-use Rattle.std.proofs.Common.{ℕ, subst}
-use Rattle.std.specs.Str.Parse.{IsNumeral}
+use Rattle.columns.proofs.Names.{ℕ, subst, IsNumeral, WritesField}
 use Rattle.columns.specs.ColumnFields.{IsOrdinalFieldCell, IsSetFieldCell}
-use Rattle.columns.specs.FieldWrites.{WritesField}
 use Rattle.columns.proofs.column_cell.write_column.Goals as goal
 
 pub returns-in-Enum : goal.returns-in-Enum

@@ -1,8 +1,5 @@
-use Rattle.std.proofs.Common.{◌≡◌, sym, ap, ◌∙◌, Option, unwrap_or}
-use Rattle.std.specs.Prelude.{IsTrue}
-use Rattle.columns.specs.DataType.{is_type}
-use Rattle.columns.specs.declared.sign.Sign.{Sign}
-use Rattle.columns.specs.TypeText.{sign_text}
+use Rattle.columns.proofs.Names.{◌≡◌, sym, ap, ◌∙◌, Option, IsTrue, is_type, Sign, sign_text}
+use Rattle.std.proofs.Common.{unwrap_or}
 use Rattle.columns.proofs.Types.{small, no_opening, none_some, some_and}
 use Rattle.columns.proofs.data_type.read_rest.Goals as goal
 

@@ -1,9 +1,7 @@
-use Rattle.std.proofs.Common.{◌≡◌, ◌++◌, ◌∷◌, [], List, ℕ, false, not, ap, sym, subst, ◌∙◌, arith, Bor}
-use Rattle.std.specs.List.{list_any, AllByRecursion, IsDistinct}
-use Rattle.std.specs.Str.{bytes_eq}
-use Rattle.columns.specs.Seen.{HasSeen}
-use Rattle.columns.specs.Lines.{field, column_text}
-use Rattle.columns.specs.Descriptions.{DescribedTableValue, described_table, described_tables, table_names, table_front, description_text, IsTable}
+use Rattle.columns.proofs.Names.{◌≡◌, ◌++◌, ◌∷◌, [], List, ℕ, false, not, ap, sym, subst, ◌∙◌, arith, Bor, list_any, AllByRecursion, bytes_eq, HasSeen, column_text, DescribedTableValue, described_tables, table_names, table_front, description_text, IsTable}
+use Rattle.std.specs.List.{IsDistinct}
+use Rattle.columns.specs.Lines.{field}
+use Rattle.columns.specs.Descriptions.{described_table}
 use Rattle.columns.specs.declared.table.DescribedTable.{DescribedTable}
 use Rattle.columns.proofs.Types.{never}
 use Rattle.columns.proofs.Ahead.{distinct_with, not_not, no_two, first_front}

@@ -1,8 +1,5 @@
-use Rattle.std.proofs.Common.{◌≡◌, ◌++◌, List, length}
-use Rattle.std.specs.List.{AllByRecursion, IsDistinct}
-use Rattle.std.specs.Str.{bytes_eq}
-use Rattle.columns.specs.Seen.{HasSeen}
-use Rattle.columns.specs.Descriptions.{DescribedTableValue, described_tables, table_names, description_text, IsTable, AreTables}
+use Rattle.columns.proofs.Names.{◌≡◌, ◌++◌, List, length, AllByRecursion, bytes_eq, HasSeen, DescribedTableValue, described_tables, table_names, description_text, IsTable, AreTables}
+use Rattle.std.specs.List.{IsDistinct}
 use Rattle.columns.proofs.TablesAhead.{AreAhead}
 use Rattle.columns.proofs.description.read_tables.Given as goal
 

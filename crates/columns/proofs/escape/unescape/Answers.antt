@@ -1,5 +1,4 @@
-use Rattle.std.proofs.Common.{length, ap, arith}
-use Rattle.columns.specs.declared.escape.Layer.TheVariants.{Client}
+use Rattle.columns.proofs.Names.{length, ap, arith, Client}
 use Rattle.columns.proofs.EscapeCodes.{whole_text}
 use Rattle.columns.proofs.escape.unescape.Goals as goal
 

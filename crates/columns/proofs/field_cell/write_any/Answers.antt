@@ -1,8 +1,6 @@
-use Rattle.std.proofs.Common.{ℕ, ◌*◌, inl, inr, subst}
-use Rattle.std.specs.Str.Parse.{IsNumeral}
-use Rattle.columns.specs.FieldForms.{IsMomentForm, IsSpanForm}
+use Rattle.columns.proofs.Names.{ℕ, ◌*◌, inl, inr, subst, IsNumeral, IsMomentForm, WritesField}
+use Rattle.columns.specs.FieldForms.{IsSpanForm}
 use Rattle.columns.specs.FieldCells.{IsBitsFieldCell, IsTimeFieldCell, IsDatetimeFieldCell, IsTimestampFieldCell, IsHexFieldCell, AreHexDigits}
-use Rattle.columns.specs.FieldWrites.{WritesField}
 use Rattle.columns.proofs.field_cell.write_any.Goals as goal
 
 pub returns-in-Tinyint : goal.returns-in-Tinyint

@@ -1,5 +1,4 @@
-use Rattle.std.proofs.Common.{refl}
-use Rattle.std.specs.Str.Parse.{IsNumeral}
+use Rattle.columns.proofs.Names.{refl, IsNumeral}
 use Rattle.columns.specs.Bits.{bit_bytes}
 use Rattle.columns.specs.FieldCells.{IsBitsFieldCell}
 use Rattle.columns.proofs.FieldWrites.{written_field}

@@ -1,5 +1,4 @@
-use Rattle.std.proofs.Common.{ap}
-use Rattle.binlog.specs.Cell.CellValue.{bytes_cell}
+use Rattle.columns.proofs.Names.{ap, bytes_cell}
 use Rattle.columns.specs.FieldForms.{IsDateForm}
 use Rattle.columns.specs.FieldCells.{IsDateFieldCell}
 use Rattle.columns.proofs.FieldWrites.{written_field}

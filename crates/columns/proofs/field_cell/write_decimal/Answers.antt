@@ -1,8 +1,4 @@
-use Rattle.std.proofs.Common.{◌≡◌, ℕ, ap, sym, subst, ◌∙◌}
-use Rattle.binlog.specs.Cell.CellValue.{bytes_cell}
-use Rattle.columns.specs.Decimals.{decimal_bytes}
-use Rattle.columns.specs.TypeText.{first_number}
-use Rattle.columns.specs.TypedValues.{second_number}
+use Rattle.columns.proofs.Names.{◌≡◌, ℕ, ap, sym, subst, ◌∙◌, bytes_cell, decimal_bytes, first_number, second_number}
 use Rattle.columns.specs.Fields.{IsFormFault}
 use Rattle.columns.specs.FieldDecimals.{IsDecimalForm}
 use Rattle.columns.specs.FieldCells.{IsDecimalFieldCell}

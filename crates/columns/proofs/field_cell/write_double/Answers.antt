@@ -1,8 +1,6 @@
-use Rattle.std.proofs.Common.{◌%◌, suc, sym, subst, arith}
-use Rattle.std.specs.Prelude.{IsTrue}
+use Rattle.columns.proofs.Names.{◌%◌, suc, sym, subst, arith, IsTrue, Float, IsReal}
 use Rattle.std.specs.Float.{float_is_finite}
-use Rattle.std.specs.Float.Ieee.{Float}
-use Rattle.columns.specs.FieldCells.{IsDoubleFieldCell, IsReal}
+use Rattle.columns.specs.FieldCells.{IsDoubleFieldCell}
 use Rattle.columns.proofs.Types.{le_of}
 use Rattle.columns.proofs.FloatBits.{double_finite}
 use Rattle.columns.proofs.FieldWrites.{refused_real, written_field}

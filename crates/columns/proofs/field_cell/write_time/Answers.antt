@@ -1,6 +1,4 @@
-use Rattle.std.proofs.Common.{ℕ, ap}
-use Rattle.binlog.specs.Cell.CellValue.{bytes_cell}
-use Rattle.columns.specs.Times.{fraction_size}
+use Rattle.columns.proofs.Names.{ℕ, ap, bytes_cell, fraction_size}
 use Rattle.columns.specs.Spans.{span_bytes}
 use Rattle.columns.specs.FieldForms.{IsSpanForm}
 use Rattle.columns.specs.FieldCells.{IsTimeFieldCell}

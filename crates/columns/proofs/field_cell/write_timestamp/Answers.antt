@@ -1,6 +1,5 @@
-use Rattle.std.proofs.Common.{refl}
+use Rattle.columns.proofs.Names.{refl, IsMomentForm}
 use Rattle.columns.specs.Stamps.{stamp_bytes}
-use Rattle.columns.specs.FieldForms.{IsMomentForm}
 use Rattle.columns.specs.FieldCells.{IsTimestampFieldCell}
 use Rattle.columns.proofs.FieldWrites.{written_field}
 use Rattle.columns.proofs.field_cell.write_timestamp.Goals as goal

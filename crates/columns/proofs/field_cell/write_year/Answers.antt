@@ -1,5 +1,4 @@
-use Rattle.std.proofs.Common.{ap}
-use Rattle.binlog.specs.Cell.CellValue.{bytes_cell}
+use Rattle.columns.proofs.Names.{ap, bytes_cell}
 use Rattle.columns.specs.Fields.{AreFourDigits}
 use Rattle.columns.specs.FieldCells.{IsYearFieldCell}
 use Rattle.columns.proofs.FieldWrites.{written_field}

@@ -1,5 +1,4 @@
-use Rattle.std.proofs.Common.{subst, sym}
-use Rattle.columns.specs.Fields.{IsDigitsOf}
+use Rattle.columns.proofs.Names.{subst, sym, IsDigitsOf}
 use Rattle.columns.proofs.FieldDigits.{decimal_is}
 use Rattle.columns.proofs.field_laws.bits_text_reads_back.Goals as goal
 

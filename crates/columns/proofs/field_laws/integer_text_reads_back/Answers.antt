@@ -1,10 +1,8 @@
-use Rattle.std.proofs.Common.{ℕ, suc, ℤ, pos, negsuc, ◌^◌, ◌≤◌, min, decimal, refl, subst, sym, arith}
+use Rattle.columns.proofs.Names.{ℕ, suc, ◌^◌, ◌≤◌, refl, subst, sym, arith, first_number, Arguments, Sign}
+use Rattle.std.proofs.Common.{ℤ, pos, negsuc, min, decimal}
 use Rattle.columns.specs.Integers.{IsWithin, IsInRange, HasSign, half}
-use Rattle.columns.specs.TypeText.{first_number}
 use Rattle.columns.specs.PlainTexts.{shown_integer}
 use Rattle.columns.specs.Fields.{IsWithSign, number_of}
-use Rattle.columns.specs.declared.arguments.Arguments.{Arguments}
-use Rattle.columns.specs.declared.sign.Sign.{Sign}
 use Rattle.columns.specs.declared.sign.Sign.TheVariants as type_sign
 use Rattle.columns.specs.declared.value.integer.Integer.{Integer}
 use Rattle.columns.specs.declared.value.integer.Integer.TheVariants.{Signed, Unsigned}

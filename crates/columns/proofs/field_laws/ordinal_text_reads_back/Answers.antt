@@ -1,5 +1,4 @@
-use Rattle.std.proofs.Common.{subst, sym, arith}
-use Rattle.columns.specs.Fields.{IsDigitsOf}
+use Rattle.columns.proofs.Names.{subst, sym, arith, IsDigitsOf}
 use Rattle.columns.proofs.FieldDigits.{decimal_is}
 use Rattle.columns.proofs.field_laws.ordinal_text_reads_back.Goals as goal
 

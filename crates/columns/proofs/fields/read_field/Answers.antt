@@ -1,11 +1,8 @@
-use Rattle.std.proofs.Common.{ap, sym, ◌∙◌, drop, refl, eq-eqb}
+use Rattle.columns.proofs.Names.{ap, sym, ◌∙◌, refl, ◌++◌, append-nil, length, subst, arith, eqb-true, Are, is_inner}
+use Rattle.std.proofs.Common.{drop, eq-eqb}
 use Rattle.columns.proofs.FieldCuts.{field_cut}
 use Rattle.columns.proofs.MemberLists.{other_byte}
-use Rattle.std.proofs.Common.{◌++◌, append-nil, length, subst, arith}
-use Rattle.std.proofs.lemmas.Bool.{eqb-true}
 use Rattle.std.proofs.lemmas.List.{nil_from_length}
-use Rattle.columns.specs.Word.{Are}
-use Rattle.columns.specs.Lines.{is_inner}
 use Rattle.columns.proofs.fields.read_field.Goals as goal
 
 pub returns-then-is_empty-clause-only : goal.returns-then-is_empty-clause-only

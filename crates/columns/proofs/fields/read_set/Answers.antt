@@ -1,7 +1,4 @@
-use Rattle.std.proofs.Common.{List, ℕ, Some, None, ap, ◌∙◌}
-use Rattle.std.specs.Prelude.{codes}
-use Rattle.std.specs.Str.{bytes_eq}
-use Rattle.columns.specs.Lines.{set_text}
+use Rattle.columns.proofs.Names.{List, ℕ, Some, None, ap, ◌∙◌, codes, bytes_eq, set_text}
 use Rattle.columns.proofs.Types.{never}
 use Rattle.columns.proofs.FieldCuts.{name_of_set}
 use Rattle.columns.proofs.fields.read_set.Goals as goal

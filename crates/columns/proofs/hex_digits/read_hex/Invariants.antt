@@ -1,5 +1,4 @@
-use Rattle.std.proofs.Common.{◌≡◌, ◌++◌, length}
-use Rattle.columns.specs.Escapes.{hex_text, AreBytes}
+use Rattle.columns.proofs.Names.{◌≡◌, ◌++◌, length, hex_text, AreBytes}
 use Rattle.columns.proofs.hex_digits.read_hex.Given as goal
 
 abbrev pub invariant-loop-byte : goal.invariant-loop-byte

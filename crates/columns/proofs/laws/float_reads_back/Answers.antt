@@ -1,12 +1,7 @@
-use Rattle.std.proofs.Common.{◌%◌, to_bits, sym, ap, subst, ◌∙◌}
-use Rattle.std.specs.Prelude.{IsTrue, Ok}
-use Rattle.std.specs.Float.{float_is_finite, binary32}
-use Rattle.std.specs.Float.Ieee.{Float}
-use Rattle.std.proofs.lemmas.Bool.{lt-ltb}
-use Rattle.binlog.specs.Cell.CellValue.{bytes_cell}
+use Rattle.columns.proofs.Names.{◌%◌, to_bits, sym, ap, subst, ◌∙◌, IsTrue, Ok, binary32, Float, lt-ltb, bytes_cell, of_bits-to_bits, to_bits-lt}
+use Rattle.std.specs.Float.{float_is_finite}
 use Rattle.columns.proofs.FloatBits.{float_below}
 use Rattle.std.specs.Bool.{passes}
-use lib.Ieee.Bits.{of_bits-to_bits, to_bits-lt}
 use Rattle.columns.proofs.laws.float_reads_back.Goals as goal
 
 pub returns : goal.returns

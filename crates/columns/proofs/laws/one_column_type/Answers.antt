@@ -1,6 +1,5 @@
-use Rattle.std.proofs.Common.{refl, ap, sym, ◌∙◌, get_or, drop, arith}
-use Rattle.std.specs.Prelude.{codes}
-use Rattle.columns.specs.Members.{members_text}
+use Rattle.columns.proofs.Names.{refl, ap, sym, ◌∙◌, get_or, arith, codes, members_text}
+use Rattle.std.proofs.Common.{drop}
 use Rattle.columns.specs.ColumnTypes.TypeValue.{scalar, enumeration, choices}
 use Rattle.columns.proofs.Types.{both_hold}
 use Rattle.columns.proofs.MemberLists.{same_members}

@@ -1,5 +1,4 @@
-use Rattle.std.proofs.Common.{sym, ap, ◌∙◌}
-use Rattle.binlog.specs.Cell.CellValue.{bytes_cell}
+use Rattle.columns.proofs.Names.{sym, ap, ◌∙◌, bytes_cell}
 use Rattle.columns.proofs.Types.{both_hold}
 use Rattle.columns.proofs.laws.one_time.Goals as goal
 

@@ -1,6 +1,4 @@
-use Rattle.std.proofs.Common.{ap, sym, ◌∙◌, take, length}
-use Rattle.std.proofs.Math.Seq.{take-append_seam}
-use Rattle.std.specs.Cmp.Lexicographic.{other_text}
+use Rattle.columns.proofs.Names.{ap, sym, ◌∙◌, take, length, take-append_seam, other_text}
 use Rattle.columns.proofs.Ahead.{not_not}
 use Rattle.columns.proofs.lines.after_front.Goals as goal
 

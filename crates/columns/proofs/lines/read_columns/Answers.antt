@@ -1,12 +1,8 @@
-use Rattle.std.proofs.Common.{◌≡◌, ◌++◌, ◌∷◌, [], List, ℕ, false, not, ap, sym, subst, ◌∙◌, refl, Bor}
-use Rattle.std.specs.List.{list_any, AllByRecursion, IsDistinct}
-use Rattle.std.specs.Str.{bytes_eq}
+use Rattle.columns.proofs.Names.{◌≡◌, ◌++◌, ◌∷◌, [], List, ℕ, false, not, ap, sym, subst, ◌∙◌, refl, Bor, list_any, AllByRecursion, bytes_eq, Client, HasSeen, ColumnValue, IsDescribedColumn, column_text, lines_text, column_values, column_names}
+use Rattle.std.specs.List.{IsDistinct}
 use Rattle.columns.specs.Escapes.{escaped}
-use Rattle.columns.specs.declared.escape.Layer.TheVariants.{Client}
 use Rattle.columns.specs.declared.column.Column.{Column}
-use Rattle.columns.specs.Seen.{HasSeen}
-use Rattle.columns.specs.Lines.{ColumnValue, IsDescribedColumn, column_value, column_text}
-use Rattle.columns.specs.Descriptions.{lines_text, column_values, column_names}
+use Rattle.columns.specs.Lines.{column_value}
 use Rattle.columns.proofs.Types.{never}
 use Rattle.columns.proofs.Ahead.{IsAhead, begin, next, line_more, all_with, distinct_with, values_with, names_with, first_field, not_not, no_two, at_end}
 use Rattle.columns.proofs.WrongLines.{wrong_column, behind_front, not_false, some_there}

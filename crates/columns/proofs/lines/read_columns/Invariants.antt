@@ -1,9 +1,5 @@
-use Rattle.std.proofs.Common.{◌≡◌, ◌++◌, List, ℕ, length}
-use Rattle.std.specs.List.{AllByRecursion, IsDistinct}
-use Rattle.std.specs.Str.{bytes_eq}
-use Rattle.columns.specs.Seen.{HasSeen}
-use Rattle.columns.specs.Lines.{ColumnValue, IsDescribedColumn}
-use Rattle.columns.specs.Descriptions.{lines_text, column_values, column_names, AreDescribedColumns, BeginsNot}
+use Rattle.columns.proofs.Names.{◌≡◌, ◌++◌, List, ℕ, length, AllByRecursion, bytes_eq, HasSeen, ColumnValue, IsDescribedColumn, lines_text, column_values, column_names, AreDescribedColumns, BeginsNot}
+use Rattle.std.specs.List.{IsDistinct}
 use Rattle.columns.proofs.Ahead.{IsAhead}
 use Rattle.columns.proofs.lines.read_columns.Given as goal
 

@@ -1,6 +1,5 @@
-use Rattle.std.proofs.Common.{List, ℕ, ◌++◌, sym, subst, ◌∙◌}
+use Rattle.columns.proofs.Names.{List, ℕ, ◌++◌, sym, subst, ◌∙◌, lines_text, BeginsNot}
 use Rattle.columns.specs.Lines.{field}
-use Rattle.columns.specs.Descriptions.{lines_text, BeginsNot}
 use Rattle.columns.proofs.lines.read_table.Goals as goal
 
 pub returns-in-Ok-clause-only : goal.returns-in-Ok-clause-only

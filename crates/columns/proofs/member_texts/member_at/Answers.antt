@@ -1,8 +1,7 @@
-use Rattle.std.proofs.Common.{◌≡◌, ℕ, ◌-◌, ◌<◌, ◌≤◌, List, [], Some, None, get_or, length, slice_get, refl, ◌∙◌, arith}
+use Rattle.columns.proofs.Names.{◌≡◌, ℕ, ◌-◌, ◌<◌, ◌≤◌, List, [], Some, None, get_or, length, refl, ◌∙◌, arith, member_bytes, Member}
+use Rattle.std.proofs.Common.{slice_get}
 use Rattle.std.proofs.lemmas.Option.{slice_get-map, slice_get_past, slice_get_read}
-use Rattle.columns.specs.Members.{member_bytes}
 use Rattle.columns.specs.MemberTexts.{member_of}
-use Rattle.columns.specs.declared.member.Member.{Member}
 use Rattle.columns.proofs.member_texts.member_at.Goals as goal
 
 there : (members : List Member) (ordinal n : ℕ) (member : Member) → 0 < ordinal → n ≡ ordinal → n - 1 < length members → member ≡ get_or members (n - 1) member →

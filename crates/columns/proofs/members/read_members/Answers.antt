@@ -1,7 +1,5 @@
-use Rattle.std.proofs.Common.{◌≡◌, [], inl, inr, length, refl, ap, sym, ◌∙◌, arith, rules, vec_len, get_or, drop}
-use Rattle.std.proofs.lemmas.List.{length-map}
-use Rattle.columns.specs.Members.{member_bytes}
-use Rattle.columns.specs.declared.member.Member.{Member}
+use Rattle.columns.proofs.Names.{◌≡◌, [], inl, inr, length, refl, ap, sym, ◌∙◌, arith, rules, vec_len, get_or, length-map, member_bytes, Member}
+use Rattle.std.proofs.Common.{drop}
 use Rattle.columns.proofs.MemberLists.{first_member, members_more, pushed_front, pushed_all, before_is, other_byte}
 use Rattle.columns.proofs.Types.{never}
 use Rattle.columns.proofs.members.read_members.Goals as goal

@@ -1,8 +1,5 @@
-use Rattle.std.proofs.Common.{◌≡◌, ◌<◌, ◌≤◌, ◌++◌, length, vec_len}
-use Rattle.std.specs.List.{AllByRecursion}
-use Rattle.columns.specs.Word.{Ends}
-use Rattle.columns.specs.Escapes.{AreBytes}
-use Rattle.columns.specs.Members.{is_quote, members_front, member_bytes}
+use Rattle.columns.proofs.Names.{◌≡◌, ◌<◌, ◌≤◌, ◌++◌, length, vec_len, AllByRecursion, Ends, AreBytes, members_front, member_bytes}
+use Rattle.columns.specs.Members.{is_quote}
 use Rattle.columns.proofs.members.read_members.Given as goal
 
 abbrev pub invariant-loop-more : goal.invariant-loop-more

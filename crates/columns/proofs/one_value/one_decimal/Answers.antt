@@ -1,8 +1,4 @@
-use Rattle.std.proofs.Common.{ap, sym, ◌∙◌}
-use Rattle.binlog.specs.Cell.CellValue.{bytes_cell}
-use Rattle.columns.specs.Decimals.{decimal_bytes}
-use Rattle.columns.specs.TypeText.{first_number}
-use Rattle.columns.specs.TypedValues.{second_number}
+use Rattle.columns.proofs.Names.{ap, sym, ◌∙◌, bytes_cell, decimal_bytes, first_number, second_number}
 use Rattle.columns.proofs.Types.{both_hold}
 use Rattle.columns.specs.declared.typed_value.TypedValue.TheVariants.{Decimal}
 use Rattle.columns.proofs.one_value.one_decimal.Goals as goal

@@ -1,5 +1,4 @@
-use Rattle.std.proofs.Common.{◌*◌}
-use Rattle.columns.specs.TypeText.{first_number}
+use Rattle.columns.proofs.Names.{◌*◌, first_number}
 use Rattle.columns.proofs.padding.is_padded.Goals as goal
 
 pub returns-in-Binary : goal.returns-in-Binary

@@ -1,7 +1,6 @@
-use Rattle.std.proofs.Common.{ap, vec_len, vec_capacity}
+use Rattle.columns.proofs.Names.{ap, vec_len, vec_capacity, bytes_cell}
 use Rattle.columns.specs.TypedValues.{IsDateOf}
 use Rattle.columns.proofs.WrittenCells.{written}
-use Rattle.binlog.specs.Cell.CellValue.{bytes_cell}
 use Rattle.columns.proofs.typed_write.write_date.Goals as goal
 
 pub returns : goal.returns

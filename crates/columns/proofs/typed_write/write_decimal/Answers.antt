@@ -1,8 +1,5 @@
-use Rattle.std.proofs.Common.{◌≡◌, ap, sym, ◌∙◌, vec_len, vec_capacity}
-use Rattle.binlog.specs.Cell.CellValue.{bytes_cell}
-use Rattle.columns.specs.Decimals.{decimal_bytes}
-use Rattle.columns.specs.TypeText.{first_number}
-use Rattle.columns.specs.TypedValues.{second_number, IsDecimalOf}
+use Rattle.columns.proofs.Names.{◌≡◌, ap, sym, ◌∙◌, vec_len, vec_capacity, bytes_cell, decimal_bytes, first_number, second_number}
+use Rattle.columns.specs.TypedValues.{IsDecimalOf}
 use Rattle.columns.proofs.WrittenCells.{written}
 use Rattle.columns.proofs.typed_write.write_decimal.Goals as goal
 

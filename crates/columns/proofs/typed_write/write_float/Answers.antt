@@ -1,8 +1,6 @@
-use Rattle.std.proofs.Common.{subst, vec_len, vec_capacity}
+use Rattle.columns.proofs.Names.{subst, vec_len, vec_capacity, bytes_cell, Float}
 use Rattle.columns.specs.TypedValues.{IsFloatOf}
 use Rattle.columns.proofs.WrittenCells.{written}
-use Rattle.binlog.specs.Cell.CellValue.{bytes_cell}
-use Rattle.std.specs.Float.Ieee.{Float}
 use Rattle.columns.specs.RealCells.{IsFloatValue}
 use Rattle.columns.proofs.typed_write.write_float.Goals as goal
 

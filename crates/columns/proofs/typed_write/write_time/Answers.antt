@@ -1,9 +1,7 @@
-use Rattle.std.proofs.Common.{ℕ, ap, vec_len, vec_capacity}
+use Rattle.columns.proofs.Names.{ℕ, ap, vec_len, vec_capacity, bytes_cell, fraction_size}
 use Rattle.columns.specs.TypedValues.{IsTimeOf}
 use Rattle.columns.proofs.WrittenCells.{written}
-use Rattle.binlog.specs.Cell.CellValue.{bytes_cell}
 use Rattle.columns.specs.Spans.{span_bytes}
-use Rattle.columns.specs.Times.{fraction_size}
 use Rattle.columns.proofs.typed_write.write_time.Goals as goal
 
 pub returns : goal.returns

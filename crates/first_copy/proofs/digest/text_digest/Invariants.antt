@@ -1,5 +1,5 @@
 use Rattle.std.proofs.Common.{◌<◌, length}
-use Rattle.first_copy.proofs.Hashed.{HasHashed}
+use Rattle.first_copy.proofs.TextDigests.{HasHashed}
 use Rattle.first_copy.proofs.digest.text_digest.Given as goal
 
 abbrev pub invariant-loop : goal.invariant-loop

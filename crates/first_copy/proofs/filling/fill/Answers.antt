@@ -1,5 +1,4 @@
-use Rattle.std.proofs.Common.{arith, ◌∙◌}
-use Rattle.std.proofs.lemmas.List.{nil_from_length}
+use Rattle.first_copy.proofs.Names.{arith, ◌∙◌, nil_from_length}
 use Rattle.first_copy.proofs.FaultsAfter.{cut_line}
 use Rattle.first_copy.proofs.filling.fill.Goals as goal
 

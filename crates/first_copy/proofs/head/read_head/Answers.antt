@@ -1,7 +1,5 @@
-use Rattle.std.proofs.Common.{◌≡◌, List, ℕ, ◌∷◌, [], ◌++◌, false, not, subst, sym, refl, ◌∙◌}
-use Rattle.std.specs.Prelude.{codes}
-use Rattle.std.specs.Str.{bytes_eq}
-use Rattle.first_copy.proofs.Collecting.{head_read}
+use Rattle.first_copy.proofs.Names.{◌≡◌, List, ℕ, ◌∷◌, [], ◌++◌, false, not, subst, sym, refl, ◌∙◌, codes, bytes_eq}
+use Rattle.first_copy.proofs.RowLines.{head_read}
 use Rattle.first_copy.proofs.head.read_head.Goals as goal
 
 pub returns-in-Ok-parse : goal.returns-in-Ok-parse

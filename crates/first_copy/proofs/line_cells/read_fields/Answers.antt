@@ -1,7 +1,6 @@
-use Rattle.std.proofs.Common.{◌+◌, ◌∷◌, List, drop, vec_len, sym, ap, ◌∙◌, arith}
-use Rattle.std.proofs.lemmas.List.{drop_more, drop_all, nil_from_length}
-use Rattle.std.proofs.lemmas.Result.{err_from_is_err_and}
-use Rattle.columns.specs.declared.column.Column.{Column}
+use Rattle.first_copy.proofs.Names.{◌+◌, ◌∷◌, List, sym, ap, ◌∙◌, arith, nil_from_length, err_from_is_err_and, Column}
+use Rattle.std.proofs.Common.{drop, vec_len}
+use Rattle.std.proofs.lemmas.List.{drop_more, drop_all}
 use Rattle.first_copy.proofs.LineReading.{next_field, refused_field, wrong_field, all_fields}
 use Rattle.first_copy.proofs.line_cells.read_fields.Goals as goal
 

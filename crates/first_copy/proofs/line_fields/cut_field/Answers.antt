@@ -1,6 +1,4 @@
-use Rattle.std.proofs.Common.{subst, sym, arith}
-use Rattle.columns.specs.Word.{Are}
-use Rattle.columns.specs.Lines.{is_inner}
+use Rattle.first_copy.proofs.Names.{subst, sym, arith, Are, is_inner}
 use Rattle.columns.proofs.Words.{are_front, are_all}
 use Rattle.first_copy.proofs.line_fields.cut_field.Goals as goal
 

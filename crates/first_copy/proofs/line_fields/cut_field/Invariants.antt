@@ -1,5 +1,4 @@
-use Rattle.std.proofs.Common.{◌≡◌, ℕ, ◌<◌, true, get_or}
-use Rattle.columns.specs.Lines.{is_inner}
+use Rattle.first_copy.proofs.Names.{◌≡◌, ℕ, ◌<◌, true, get_or, is_inner}
 use Rattle.first_copy.proofs.line_fields.cut_field.Given as goal
 
 abbrev pub invariant-loop-i : goal.invariant-loop-i

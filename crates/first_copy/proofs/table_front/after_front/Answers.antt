@@ -1,5 +1,4 @@
-use Rattle.std.proofs.Common.{◌++◌, ◌∙◌, sym}
-use Rattle.std.specs.String.{string_bytes}
+use Rattle.first_copy.proofs.Names.{◌++◌, ◌∙◌, sym, string_bytes}
 use Rattle.columns.specs.Lines.{field}
 use Rattle.first_copy.proofs.TablePlaces.{behind_first}
 use Rattle.first_copy.proofs.table_front.after_front.Goals as goal

@@ -1,5 +1,4 @@
-use Rattle.std.proofs.Common.{length, refl}
-use Rattle.std.proofs.lemmas.Option.{slice_get_read}
+use Rattle.first_copy.proofs.Names.{length, refl, slice_get_read}
 use Rattle.first_copy.proofs.TablePlaces.{none_further, none_at_all}
 use Rattle.first_copy.proofs.table_front.find_among.Goals as goal
 

@@ -1,6 +1,5 @@
-use Rattle.std.proofs.Common.{◌≡◌, ◌<◌, ℕ, Some, slice_get}
+use Rattle.first_copy.proofs.Names.{◌≡◌, ◌<◌, ℕ, Some, slice_get, DescribedTable}
 use Rattle.columns.specs.Descriptions.{described_table, table_front, BeginsNot}
-use Rattle.columns.specs.declared.table.DescribedTable.{DescribedTable}
 use Rattle.first_copy.proofs.table_front.find_among.Given as goal
 
 abbrev pub invariant-loop-i : goal.invariant-loop-i

@@ -1,5 +1,4 @@
-use Rattle.std.proofs.Common.{length, refl, arith}
-use Rattle.std.proofs.lemmas.Option.{slice_get_read}
+use Rattle.first_copy.proofs.Names.{length, refl, arith, slice_get_read}
 use Rattle.first_copy.proofs.table_front.front_at.Goals as goal
 
 pub returns : goal.returns

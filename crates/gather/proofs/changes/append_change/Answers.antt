@@ -1,6 +1,6 @@
 use Rattle.std.proofs.Common.{◌≡◌, ◌∷◌, [], ◌++◌}
 use Rattle.gather.specs.declared.changes.Entry.{Entry}
-use Rattle.gather.proofs.Packed.{packs}
+use Rattle.gather.proofs.ImagePacking.{packs}
 use Rattle.gather.proofs.changes.append_change.Goals as goal
 
 pub returns-clause-entries : goal.returns-clause-entries

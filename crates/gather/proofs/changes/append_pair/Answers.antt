@@ -1,5 +1,5 @@
 use Rattle.std.proofs.lemmas.Result.{on_ok_weaker}
-use Rattle.gather.proofs.Packed.{pushes_insert, pushes_delete, pushes_update}
+use Rattle.gather.proofs.ImagePacking.{pushes_insert, pushes_delete, pushes_update}
 use Rattle.gather.proofs.changes.append_pair.Goals as goal
 
 pub returns-in_ok-after-in-Insert-clause-ok : goal.returns-in_ok-after-in-Insert-clause-ok

@@ -1,7 +1,4 @@
-use Rattle.std.proofs.Common.{◌+◌, ◌-◌, sym, ap, ◌∙◌}
-use Rattle.std.proofs.lemmas.List.{take_rest}
-use Rattle.binlog.specs.Cell.{cell_value}
-use Rattle.gather.specs.ImageCells.{are_images}
+use Rattle.gather.proofs.Names.{◌+◌, ◌-◌, sym, ap, ◌∙◌, take_rest, cell_value, are_images}
 use Rattle.gather.proofs.ImageParts.{one_left}
 use Rattle.gather.proofs.image_check.are_images.Goals as goal
 

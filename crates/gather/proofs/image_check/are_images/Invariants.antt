@@ -1,5 +1,4 @@
-use Rattle.std.proofs.Common.{◌≡◌, ◌-◌}
-use Rattle.gather.specs.ImageCells.{are_images}
+use Rattle.gather.proofs.Names.{◌≡◌, ◌-◌, are_images}
 use Rattle.gather.proofs.image_check.are_images.Given as goal
 
 abbrev pub invariant-loop : goal.invariant-loop

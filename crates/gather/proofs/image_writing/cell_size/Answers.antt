@@ -1,6 +1,4 @@
-use Rattle.std.proofs.Common.{length, sym, ap, ◌∙◌}
-use Rattle.binlog.specs.Cell.{cell_value}
-use Rattle.gather.specs.Image.{cell_image}
+use Rattle.gather.proofs.Names.{length, sym, ap, ◌∙◌, cell_value, cell_image}
 use Rattle.gather.proofs.ImageParts.{number_size}
 use Rattle.gather.proofs.image_writing.cell_size.Goals as goal
 

@@ -1,7 +1,5 @@
-use Rattle.std.proofs.Common.{◌≡◌, ◌+◌, ◌*◌, ◌≤◌, ◌^◌, length, drop}
-use Rattle.std.specs.Prelude.{flat_map}
-use Rattle.gather.specs.Image.{cell_image, image}
-use Rattle.gather.specs.ImageCells.{cell_values}
+use Rattle.gather.proofs.Names.{◌≡◌, ◌+◌, ◌≤◌, ◌^◌, length, flat_map, cell_image, image, cell_values}
+use Rattle.std.proofs.Common.{◌*◌, drop}
 use Rattle.gather.proofs.ImageParts.{AllHave}
 use Rattle.gather.proofs.image_writing.image_size.Given as goal
 

@@ -1,10 +1,6 @@
-use Rattle.std.proofs.Common.{◌++◌, ◌+◌, length, drop, ap, arith}
-use Rattle.std.specs.Prelude.{flat_map}
-use Rattle.std.proofs.lemmas.List.{length-append}
-use Rattle.std.proofs.lemmas.Result.{err_from_is_err_and}
+use Rattle.gather.proofs.Names.{◌++◌, ◌+◌, length, ap, arith, flat_map, length-append, err_from_is_err_and, cell_image, image, cell_values}
+use Rattle.std.proofs.Common.{drop}
 use Rattle.binlog.specs.declared.cell.Cell.TheVariants.{Null}
-use Rattle.gather.specs.Image.{cell_image, image}
-use Rattle.gather.specs.ImageCells.{cell_values}
 use Rattle.gather.proofs.ImageParts.{next_values, all_after, first_has, first_size, next_written}
 use Rattle.gather.proofs.image_writing.write_cells.Goals as goal
 

@@ -1,7 +1,5 @@
-use Rattle.std.proofs.Common.{vec_capacity, ◌≤◌, ◌≡◌, ◌++◌, drop}
-use Rattle.std.specs.Prelude.{flat_map}
-use Rattle.gather.specs.Image.{cell_image, image}
-use Rattle.gather.specs.ImageCells.{cell_values}
+use Rattle.gather.proofs.Names.{◌≤◌, ◌≡◌, ◌++◌, flat_map, cell_image, image, cell_values}
+use Rattle.std.proofs.Common.{vec_capacity, drop}
 use Rattle.gather.proofs.image_writing.write_cells.Given as goal
 
 abbrev pub invariant-loop-cell : goal.invariant-loop-cell

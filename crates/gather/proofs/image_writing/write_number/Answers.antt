@@ -1,8 +1,6 @@
-use Rattle.std.proofs.Common.{arith, ◌++◌, ◌∷◌, [], take, ap, ◌∙◌, append_assoc}
+use Rattle.gather.proofs.Names.{arith, ◌++◌, ◌∷◌, [], take, ap, ◌∙◌, append_assoc, err_from_is_err_and, little_bytes}
 use Rattle.std.proofs.lemmas.List.{length-take}
-use Rattle.std.proofs.lemmas.Result.{err_from_is_err_and}
 use Rattle.gather.proofs.ImageParts.{number_size}
-use Rattle.byteorder.specs.Endian.{little_bytes}
 use Rattle.byteorder.proofs.Bytes.{take-bytes_low_first}
 use Rattle.gather.proofs.image_writing.write_number.Goals as goal
 

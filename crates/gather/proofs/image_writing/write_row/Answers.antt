@@ -1,9 +1,4 @@
-use Rattle.std.proofs.Common.{◌≡◌, ◌∷◌, length, ◌∙◌, ap, arith}
-use Rattle.std.specs.Prelude.{flat_map}
-use Rattle.std.proofs.lemmas.List.{length-append}
-use Rattle.std.proofs.lemmas.Result.{err_from_is_err_and}
-use Rattle.binlog.specs.Cell.{cell_value}
-use Rattle.gather.specs.Image.{cell_image}
+use Rattle.gather.proofs.Names.{◌≡◌, ◌∷◌, length, ◌∙◌, ap, arith, flat_map, length-append, err_from_is_err_and, cell_value, cell_image}
 use Rattle.gather.proofs.ImageParts.{counted, begun, first_size}
 use Rattle.gather.proofs.image_writing.write_row.Goals as goal
 

@@ -1,6 +1,5 @@
-use Rattle.std.proofs.Common.{vec_capacity, ◌≤◌, ◌≡◌, ◌+◌, ◌∷◌, ◌++◌, length}
-use Rattle.std.specs.Prelude.{flat_map}
-use Rattle.gather.specs.Image.{cell_image}
+use Rattle.gather.proofs.Names.{◌≤◌, ◌≡◌, ◌+◌, ◌∷◌, ◌++◌, length, flat_map, cell_image}
+use Rattle.std.proofs.Common.{vec_capacity}
 use Rattle.gather.proofs.ImageParts.{AllHave}
 use Rattle.gather.proofs.image_writing.write_row.Given as goal
 

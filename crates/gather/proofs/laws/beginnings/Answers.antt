@@ -1,4 +1,4 @@
-use Rattle.gather.proofs.Shortening as lemma
+use Rattle.gather.proofs.ShorterLists as lemma
 use Rattle.gather.proofs.laws.beginnings.Goals as goal
 
 pub returns : goal.returns

@@ -1,7 +1,5 @@
-use Rattle.std.proofs.Common.{length, ap, Err, ⊎_elim, inr, arith}
-use Rattle.std.proofs.lemmas.Bool.{cases_eq}
-use Rattle.std.proofs.lemmas.Result.{err_from_is_err_and}
-use Rattle.binlog.specs.RowsView.{rows_value, pair_value}
+use Rattle.gather.proofs.Names.{length, ap, Err, ⊎_elim, inr, arith, cases_eq, err_from_is_err_and, rows_value}
+use Rattle.binlog.specs.RowsView.{pair_value}
 use Rattle.gather.proofs.RowItems.{walk_begins, walk_more, walk_ends, walk_faults, walk_first, walk_images, other_columns, ok_not_err}
 use Rattle.gather.proofs.row_changes.push_changes.Goals as goal
 

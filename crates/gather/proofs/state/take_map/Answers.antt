@@ -1,5 +1,4 @@
-use Rattle.std.proofs.lemmas.Result.{err_from_is_err_and}
-use Rattle.binlog.specs.TableView.{table_value}
+use Rattle.gather.proofs.Names.{err_from_is_err_and, table_value}
 use Rattle.gather.proofs.States.{map_adds}
 use Rattle.gather.proofs.state.take_map.Goals as goal
 

@@ -1,6 +1,4 @@
-use Rattle.std.proofs.Common.{Err, sym, ◌∙◌}
-use Rattle.std.proofs.lemmas.Result.{err_from_is_err_and}
-use Rattle.binlog.specs.RowsView.{rows_value}
+use Rattle.gather.proofs.Names.{Err, sym, ◌∙◌, err_from_is_err_and, rows_value}
 use Rattle.gather.proofs.States.{rows_break_off, rows_add}
 use Rattle.gather.proofs.state.take_rows.Goals as goal
 

@@ -1,9 +1,8 @@
-use Rattle.std.proofs.Common.{◌≡◌, Some, sym, ap, ◌∙◌, take, drop, arith}
-use Rattle.std.proofs.lemmas.Bool.{le-ltb}
+use Rattle.greet.proofs.Names.{◌≡◌, Some, sym, ap, ◌∙◌, take, arith, le-ltb, little_number, server_error, state_of, message_of}
+use Rattle.std.proofs.Common.{drop}
 use Rattle.std.proofs.lemmas.List.{take_min}
-use Rattle.byteorder.specs.Endian.{little_number}
 use Rattle.byteorder.specs.Numbers.{little_from-take}
-use Rattle.greet.specs.Refusal.{error_of, server_error, state_of, message_of, kept_message}
+use Rattle.greet.specs.Refusal.{error_of, kept_message}
 use Rattle.greet.proofs.error.server_error.Goals as goal
 
 pub returns-in-Ok-clause-fault : goal.returns-in-Ok-clause-fault

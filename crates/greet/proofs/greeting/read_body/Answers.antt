@@ -1,13 +1,9 @@
-use Rattle.std.proofs.Common.{◌≡◌, ◌++◌, ◌∷◌, ◌-◌, max, ℕ, List, length, get_or, take, drop, bit_and, sym, ap, subst, ◌∙◌, arith}
-use Rattle.std.proofs.lemmas.List.{take_rest, length-drop}
-use Rattle.std.proofs.lemmas.Result.{err_from_is_err_and}
-use Rattle.greet.specs.Message.{GreetingValue, IsGreeting, needed}
-use Rattle.greet.specs.Refusal.{fields_refusal, after_zero}
+use Rattle.greet.proofs.Names.{◌≡◌, ◌++◌, ◌∷◌, ◌-◌, max, ℕ, List, length, get_or, take, bit_and, sym, ap, subst, ◌∙◌, arith, take_rest, length-drop, err_from_is_err_and, GreetingValue, IsGreeting, needed, after_zero, IsBytes, IsBytes-rest, IsBytes-after, HasGreeting}
+use Rattle.std.proofs.Common.{drop}
+use Rattle.greet.specs.Refusal.{fields_refusal}
 use Rattle.greet.specs.View.{Refuses}
-use Rattle.wire.proofs.Cuts.{IsBytes, IsBytes-rest, IsBytes-after}
 use Rattle.greet.proofs.Cuts.{after_zero-text}
 use Rattle.greet.proofs.Greetings.{no_fields, short_second, is_greeting}
-use Rattle.greet.specs.Complete.{HasGreeting}
 use Rattle.greet.proofs.greeting.read_body.Goals as goal
 
 pub returns-in_default-clause-fault : goal.returns-in_default-clause-fault

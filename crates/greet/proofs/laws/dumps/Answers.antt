@@ -1,5 +1,5 @@
 use Rattle.greet.proofs.Dumps.{one_value, not_refused}
-use Rattle.greet.proofs.Written.{written_dump}
+use Rattle.greet.proofs.MessageBytes.{written_dump}
 use Rattle.wire.proofs.Cuts.{IsBytes-all}
 use Rattle.greet.proofs.Complete.{some_dump}
 use Rattle.greet.proofs.laws.dumps.Goals as goal

@@ -1,5 +1,5 @@
 use Rattle.greet.proofs.Greetings.{one_value, not_refused}
-use Rattle.greet.proofs.Written.{written_greeting}
+use Rattle.greet.proofs.MessageBytes.{written_greeting}
 use Rattle.wire.proofs.Cuts.{IsBytes-all}
 use Rattle.greet.proofs.Complete.{some_greeting}
 use Rattle.greet.proofs.laws.greetings.Goals as goal

@@ -1,5 +1,4 @@
-use Rattle.std.proofs.Common.{refl}
-use Rattle.wire.proofs.Cuts.{IsBytes-all}
+use Rattle.greet.proofs.Names.{refl, IsBytes-all}
 use Rattle.greet.proofs.Complete.{some_response}
 use Rattle.greet.proofs.Responses.{one_value, not_refused}
 use Rattle.greet.proofs.laws.responses.Goals as goal

@@ -1,7 +1,6 @@
-use Rattle.std.proofs.Common.{◌≡◌, true, [], length, take, flat_map, sym, ap, ◌∙◌, arith}
+use Rattle.greet.proofs.Names.{◌≡◌, true, [], length, take, flat_map, sym, ap, ◌∙◌, arith, length-append}
 use Rattle.std.specs.Result.{is_err}
-use Rattle.std.proofs.lemmas.List.{length-append}
-use Rattle.greet.proofs.Appended.{parts_fit, at_error}
+use Rattle.greet.proofs.PartLists.{parts_fit, at_error}
 use Rattle.greet.proofs.parts.append.Goals as goal
 
 pub returns-then-is_err-clause-full : goal.returns-then-is_err-clause-full

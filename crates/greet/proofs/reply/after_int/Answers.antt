@@ -1,5 +1,4 @@
-use Rattle.std.proofs.Common.{◌∙◌, sym, ap, Some, arith}
-use Rattle.std.proofs.lemmas.List.{take_rest}
+use Rattle.greet.proofs.Names.{◌∙◌, sym, ap, Some, arith, take_rest}
 use Rattle.greet.proofs.Replies.{if_none, no_int, some_int}
 use Rattle.greet.proofs.reply.after_int.Goals as goal
 

@@ -1,8 +1,6 @@
-use Rattle.std.proofs.Common.{◌≡◌, ◌-◌, ◌∷◌, length, get_or, take, drop, sym, ap, ◌∙◌, subst, refl, arith}
-use Rattle.std.proofs.lemmas.Bool.{ne_eqb, le-leb, lt-leb, lt-ltb}
-use Rattle.greet.specs.Message.{IsEofPacket}
+use Rattle.greet.proofs.Names.{◌≡◌, ◌-◌, ◌∷◌, length, get_or, take, sym, ap, ◌∙◌, subst, refl, arith, ne_eqb, le-leb, lt-leb, lt-ltb, IsEofPacket, first_and_rest, begun_by}
+use Rattle.std.proofs.Common.{drop}
 use Rattle.greet.specs.Refusal.{eof_refusal}
-use Rattle.wire.proofs.Cuts.{first_and_rest, begun_by}
 use Rattle.greet.proofs.Replies.{is_eof, eof_nothing}
 use Rattle.greet.proofs.ErrBytes.{some_err}
 use Rattle.greet.proofs.reply.read_eof.Goals as goal

@@ -1,10 +1,6 @@
-use Rattle.std.proofs.Common.{◌≡◌, get_or, sym, ap, ◌∙◌, subst, refl, arith}
-use Rattle.std.proofs.lemmas.Bool.{ne_eqb}
-use Rattle.std.specs.Prelude.{OnOk, IfErr}
-use Rattle.greet.specs.Message.{IsOkPacket}
+use Rattle.greet.proofs.Names.{◌≡◌, get_or, sym, ap, ◌∙◌, subst, refl, arith, ne_eqb, OnOk, IfErr, IsOkPacket, IsBytes, IsBytes-rest, first_and_rest, begun_by}
 use Rattle.greet.specs.Refusal.{ok_refusal}
 use Rattle.greet.specs.View.{Refuses}
-use Rattle.wire.proofs.Cuts.{IsBytes, IsBytes-rest, first_and_rest, begun_by}
 use Rattle.greet.proofs.Replies.{counted_ok, counted_fault, ok_nothing, ok_not_refused}
 use Rattle.greet.proofs.Readers.{answered_alone}
 use Rattle.greet.proofs.ErrBytes.{some_err}

@@ -1,7 +1,6 @@
-use Rattle.std.proofs.Common.{◌≡◌, [], drop, ◌∙◌, arith}
+use Rattle.greet.proofs.Names.{◌≡◌, [], ◌∙◌, arith, response_lead, first_difference}
+use Rattle.std.proofs.Common.{drop}
 use Rattle.std.proofs.Math.ListN.{drop_of_length-le}
-use Rattle.greet.specs.Message.{response_lead}
-use Rattle.greet.specs.Refusal.{first_difference}
 use Rattle.greet.proofs.Responses.{differs, agrees, no_difference}
 use Rattle.greet.proofs.response.difference.Goals as goal
 

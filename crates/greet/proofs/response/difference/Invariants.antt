@@ -1,6 +1,5 @@
-use Rattle.std.proofs.Common.{◌≡◌, drop}
-use Rattle.greet.specs.Message.{response_lead}
-use Rattle.greet.specs.Refusal.{first_difference}
+use Rattle.greet.proofs.Names.{◌≡◌, response_lead, first_difference}
+use Rattle.std.proofs.Common.{drop}
 use Rattle.greet.proofs.response.difference.Given as goal
 
 abbrev pub invariant-loop-at : goal.invariant-loop-at

@@ -1,6 +1,5 @@
-use Rattle.std.proofs.Common.{◌∙◌, ◌++◌, ◌∷◌, sym, ap}
-use Rattle.std.proofs.lemmas.Bool.{not-true, not-false, eqb-true}
-use Rattle.std.proofs.lemmas.List.{nil_from_length}
+use Rattle.greet.proofs.Names.{◌∙◌, ◌++◌, ◌∷◌, sym, ap, not-false, eqb-true, nil_from_length}
+use Rattle.std.proofs.lemmas.Bool.{not-true}
 use Rattle.greet.specs.Refusal.{end_refusal}
 use Rattle.greet.proofs.Replies.{same_name}
 use Rattle.greet.proofs.Responses.{no_name, left_over, other_plugin}

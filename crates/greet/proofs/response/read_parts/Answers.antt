@@ -1,10 +1,7 @@
-use Rattle.std.proofs.Common.{◌≡◌, ◌<◌, ◌-◌, ◌++◌, ◌∷◌, [], length, get_or, take, drop, sym, ap, subst, ◌∙◌, arith}
-use Rattle.std.proofs.lemmas.List.{nil_from_length, length-take, take-append-drop}
-use Rattle.std.proofs.lemmas.Result.{err_from_is_err_and}
-use Rattle.greet.specs.Message.{IsText, plugin_name}
+use Rattle.greet.proofs.Names.{◌≡◌, ◌<◌, ◌-◌, ◌++◌, ◌∷◌, [], length, get_or, take, sym, ap, subst, ◌∙◌, arith, nil_from_length, length-take, take-append-drop, err_from_is_err_and, IsText, plugin_name, IsBytes, IsBytes-drop, IsBytes-after, first_and_rest}
+use Rattle.std.proofs.Common.{drop}
 use Rattle.greet.specs.Refusal.{end_refusal}
 use Rattle.greet.specs.View.{Refuses}
-use Rattle.wire.proofs.Cuts.{IsBytes, IsBytes-drop, IsBytes-after, first_and_rest}
 use Rattle.greet.proofs.Responses.{no_lead, no_user, no_size, short_answer, then_end, is_response}
 use Rattle.greet.proofs.response.read_parts.Goals as goal
 

@@ -1,7 +1,6 @@
-use Rattle.std.proofs.Common.{inl, inr, arith}
-use Rattle.std.proofs.lemmas.List.{take_rest}
+use Rattle.gtid.proofs.Names.{inl, inr, arith, take_rest}
 use Rattle.std.proofs.lemmas.Bool.{ltb-true}
-use Rattle.gtid.proofs.Combined.{cut_from_start, cut_on, piece_on, cut_all}
+use Rattle.gtid.proofs.IntervalUnion.{cut_from_start, cut_on, piece_on, cut_all}
 use Rattle.gtid.proofs.combination.difference.Goals as goal
 use Rattle.gtid.proofs.combination.difference.Goals.{in_default-cuts-via-then-cuts-lt1, in_default-cuts-via-in-len1-up-cuts+else-cut-piece}
 

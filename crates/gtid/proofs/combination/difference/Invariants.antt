@@ -1,5 +1,5 @@
 use Rattle.std.proofs.Common.{◌+◌, length}
-use Rattle.gtid.proofs.Combined.{Cut}
+use Rattle.gtid.proofs.IntervalUnion.{Cut}
 use Rattle.gtid.proofs.combination.difference.Given as goal
 
 abbrev pub invariant-loop-pieces : goal.invariant-loop-pieces

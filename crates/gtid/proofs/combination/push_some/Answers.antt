@@ -1,4 +1,4 @@
-use Rattle.gtid.proofs.Combined.{before_more, before_push}
+use Rattle.gtid.proofs.IntervalUnion.{before_more, before_push}
 use Rattle.gtid.proofs.combination.push_some.Goals as goal
 
 pub returns-in_ok-push-clause-least : goal.returns-in_ok-push-clause-least

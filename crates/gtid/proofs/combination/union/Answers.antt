@@ -1,5 +1,5 @@
 use Rattle.std.proofs.Common.{refl}
-use Rattle.gtid.proofs.Combined.{IsFrom-least, joined_first, joined_on, joined_apart, joined_all}
+use Rattle.gtid.proofs.IntervalUnion.{IsFrom-least, joined_first, joined_on, joined_apart, joined_all}
 use Rattle.gtid.proofs.combination.union.Goals as goal
 
 pub loop-next-init : goal.loop-next-init

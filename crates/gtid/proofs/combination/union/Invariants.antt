@@ -1,5 +1,5 @@
 use Rattle.std.proofs.Common.{◌+◌, length}
-use Rattle.gtid.proofs.Combined.{Joined}
+use Rattle.gtid.proofs.IntervalUnion.{Joined}
 use Rattle.gtid.proofs.combination.union.Given as goal
 
 abbrev pub invariant-loop-next : goal.invariant-loop-next

@@ -1,6 +1,5 @@
-use Rattle.std.proofs.Common.{inl, inr}
-use Rattle.std.proofs.lemmas.Result.{err_from_is_err_and}
-use Rattle.gtid.proofs.Read.{lawful_block, faults_within}
+use Rattle.gtid.proofs.Names.{inl, inr, err_from_is_err_and}
+use Rattle.gtid.proofs.BytesSoFar.{lawful_block, faults_within}
 use Rattle.gtid.proofs.decoding.read_group.Goals as goal
 
 pub returns-in_err-heading-clause-err : goal.returns-in_err-heading-clause-err

@@ -1,6 +1,5 @@
-use Rattle.std.proofs.Common.{inr, arith}
-use Rattle.std.proofs.lemmas.Result.{err_from_is_err_and}
-use Rattle.gtid.proofs.Read.{faults_too_short, no_groups_read, more_groups, groups_fault, all_groups, group_first, group_read, has_first}
+use Rattle.gtid.proofs.Names.{inr, arith, err_from_is_err_and}
+use Rattle.gtid.proofs.BytesSoFar.{faults_too_short, no_groups_read, more_groups, groups_fault, all_groups, group_first, group_read, has_first}
 use Rattle.gtid.proofs.decoding.read_groups.Goals as goal
 
 pub returns-in_default-clause-err : goal.returns-in_default-clause-err

@@ -1,4 +1,4 @@
-use Rattle.gtid.proofs.Read.{ReadGroups}
+use Rattle.gtid.proofs.BytesSoFar.{ReadGroups}
 use Rattle.gtid.proofs.decoding.read_groups.Given as goal
 
 abbrev pub invariant-loop-done : goal.invariant-loop-done

@@ -1,6 +1,5 @@
-use Rattle.std.proofs.Common.{inr, arith}
-use Rattle.std.proofs.lemmas.Result.{err_from_is_err_and}
-use Rattle.gtid.proofs.Read.{no_intervals, more_intervals, interval_faults, interval_first}
+use Rattle.gtid.proofs.Names.{inr, arith, err_from_is_err_and}
+use Rattle.gtid.proofs.BytesSoFar.{no_intervals, more_intervals, interval_faults, interval_first}
 use Rattle.gtid.proofs.decoding.read_intervals.Goals as goal
 
 pub loop-done-init : goal.loop-done-init

@@ -1,4 +1,4 @@
-use Rattle.gtid.proofs.Read.{ReadIntervals}
+use Rattle.gtid.proofs.BytesSoFar.{ReadIntervals}
 use Rattle.gtid.proofs.decoding.read_intervals.Given as goal
 
 abbrev pub invariant-loop-done : goal.invariant-loop-done

@@ -1,9 +1,6 @@
-use Rattle.std.proofs.Common.{◌≡◌, ℕ, ◌-◌, ◌≤◌, ◌<◌, true, false, not, ◌==◌, nat_lt, List, ◌++◌, Option, Some, length, take, drop, sym, ap, ◌∙◌, append_assoc, length-drop, arith}
-use Rattle.std.proofs.lemmas.Bool.Decides.{nat_tests}
-use Rattle.std.proofs.lemmas.List.{take-append-drop, take_rest}
-use Rattle.byteorder.specs.Endian.{little_bytes, little_number}
-use Rattle.gtid.specs.Encoding.{is_above, source_fault}
-use Rattle.gtid.specs.declared.fault.GtidFault.TheVariants.{Truncated, Order, Interval}
+use Rattle.gtid.proofs.Names.{◌≡◌, ℕ, ◌-◌, ◌≤◌, ◌<◌, true, false, not, ◌==◌, nat_lt, List, ◌++◌, Option, Some, length, take, sym, ap, ◌∙◌, append_assoc, arith, nat_tests, take-append-drop, take_rest, little_bytes, little_number, is_above, source_fault, Truncated}
+use Rattle.std.proofs.Common.{drop, length-drop}
+use Rattle.gtid.specs.declared.fault.GtidFault.TheVariants.{Order, Interval}
 use Rattle.gtid.proofs.OneEncoding.{source_table, not_less}
 use Rattle.gtid.proofs.decoding.read_source.Goals as goal
 

@@ -1,12 +1,7 @@
-use Rattle.std.proofs.Common.{◌≡◌, ◌<◌, List, ◌++◌, length, map, slice_index_or, refl, sym, ap, ◌∙◌, subst, arith}
+use Rattle.gtid.proofs.Names.{◌≡◌, ◌<◌, List, ◌++◌, length, map, slice_index_or, refl, sym, ap, ◌∙◌, subst, arith, length-map, get_or_default, err_from_is_err_and, little_bytes, interval_bytes, block_bytes, of_group, Interval}
 use Rattle.std.proofs.Math.Nat.{le_trans}
-use Rattle.std.proofs.lemmas.List.{length-map, get_or_default}
-use Rattle.std.proofs.lemmas.Result.{err_from_is_err_and}
-use Rattle.byteorder.specs.Endian.{little_bytes}
-use Rattle.gtid.specs.Encoding.{interval_bytes, block_bytes}
-use Rattle.gtid.specs.Blocks.{pair, of_group}
-use Rattle.gtid.specs.declared.interval.Interval.{Interval}
-use Rattle.gtid.proofs.Written.{appended_both, next_fits, grows_same, grows_by, grows_all, writes_none, writes_more, writes_all}
+use Rattle.gtid.specs.Blocks.{pair}
+use Rattle.gtid.proofs.ByteLists.{appended_both, next_fits, grows_same, grows_by, grows_all, writes_none, writes_more, writes_all}
 use Rattle.gtid.proofs.encoding.write_group.Goals as goal
 
 pub returns-in_err-write_interval-clause-full : goal.returns-in_err-write_interval-clause-full

@@ -1,8 +1,6 @@
-use Rattle.std.proofs.Common.{◌≤◌}
-use Rattle.std.specs.Prelude.{vec_capacity}
-use Rattle.gtid.specs.Encoding.{interval_bytes, block_bytes}
-use Rattle.gtid.specs.Blocks.{pair, of_group}
-use Rattle.gtid.proofs.Written.{Writes}
+use Rattle.gtid.proofs.Names.{◌≤◌, vec_capacity, interval_bytes, block_bytes, of_group}
+use Rattle.gtid.specs.Blocks.{pair}
+use Rattle.gtid.proofs.ByteLists.{Writes}
 use Rattle.gtid.proofs.encoding.write_group.Given as goal
 
 abbrev pub invariant-loop-interval : goal.invariant-loop-interval

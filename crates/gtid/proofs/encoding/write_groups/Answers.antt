@@ -1,11 +1,7 @@
-use Rattle.std.proofs.Common.{◌≡◌, ◌++◌, length, refl, sym, ap, ◌∙◌, arith}
+use Rattle.gtid.proofs.Names.{◌≡◌, ◌++◌, length, refl, sym, ap, ◌∙◌, arith, length-map, err_from_is_err_and, little_bytes, block_bytes, blocks_bytes, of_group}
 use Rattle.std.proofs.Math.Nat.{le_trans}
-use Rattle.std.proofs.lemmas.List.{length-map}
-use Rattle.std.proofs.lemmas.Result.{err_from_is_err_and}
-use Rattle.byteorder.specs.Endian.{little_bytes}
-use Rattle.gtid.specs.Encoding.{block_bytes, blocks_bytes}
-use Rattle.gtid.specs.Blocks.{of_group, blocks}
-use Rattle.gtid.proofs.Written.{next_fits, grows_same, grows_all, writes_none, writes_more, writes_all}
+use Rattle.gtid.specs.Blocks.{blocks}
+use Rattle.gtid.proofs.ByteLists.{next_fits, grows_same, grows_all, writes_none, writes_more, writes_all}
 use Rattle.gtid.proofs.encoding.write_groups.Goals as goal
 
 pub returns-in_err-write_group-clause-full : goal.returns-in_err-write_group-clause-full

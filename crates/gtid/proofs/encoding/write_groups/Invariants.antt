@@ -1,8 +1,6 @@
-use Rattle.std.proofs.Common.{◌≤◌}
-use Rattle.std.specs.Prelude.{vec_capacity}
-use Rattle.gtid.specs.Encoding.{block_bytes, blocks_bytes}
-use Rattle.gtid.specs.Blocks.{of_group, blocks}
-use Rattle.gtid.proofs.Written.{Writes}
+use Rattle.gtid.proofs.Names.{◌≤◌, vec_capacity, block_bytes, blocks_bytes, of_group}
+use Rattle.gtid.specs.Blocks.{blocks}
+use Rattle.gtid.proofs.ByteLists.{Writes}
 use Rattle.gtid.proofs.encoding.write_groups.Given as goal
 
 abbrev pub invariant-loop-group : goal.invariant-loop-group

@@ -1,5 +1,5 @@
 use Rattle.byteorder.specs.Endian.{little_bytes}
-use Rattle.gtid.proofs.Written.{appended_both}
+use Rattle.gtid.proofs.ByteLists.{appended_both}
 use Rattle.gtid.proofs.encoding.write_interval.Goals as goal
 
 pub returns-clause-ok : goal.returns-clause-ok

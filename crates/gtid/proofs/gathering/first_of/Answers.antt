@@ -1,5 +1,5 @@
 use Rattle.std.proofs.Common.{◌∙◌, sym}
-use Rattle.gtid.proofs.Gathered.{taken_first}
+use Rattle.gtid.proofs.SpanGroups.{taken_first}
 use Rattle.gtid.proofs.gathering.first_of.Goals as goal
 
 pub returns-in-len1-up-clause-some : goal.returns-in-len1-up-clause-some

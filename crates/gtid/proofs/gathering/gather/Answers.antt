@@ -1,5 +1,5 @@
 use Rattle.std.proofs.Common.{rules}
-use Rattle.gtid.proofs.Gathered.{rise_from_sort, lawful_sorted, listed_sorted}
+use Rattle.gtid.proofs.SpanGroups.{rise_from_sort, lawful_sorted, listed_sorted}
 use Rattle.gtid.proofs.gathering.gather.Goals as goal
 
 pub gather_rising-requires-clause-lawful : goal.gather_rising-requires-clause-lawful

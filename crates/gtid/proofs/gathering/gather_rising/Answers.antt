@@ -1,5 +1,5 @@
 use Rattle.std.proofs.Common.{arith}
-use Rattle.gtid.proofs.Gathered.{gathered_none, gathered_next, gathered_push, gathered_all}
+use Rattle.gtid.proofs.SpanGroups.{gathered_none, gathered_next, gathered_push, gathered_all}
 use Rattle.gtid.proofs.gathering.gather_rising.Goals as goal
 
 pub loop-left-init : goal.loop-left-init

@@ -1,5 +1,5 @@
 use Rattle.std.proofs.Common.{◌≤◌, length}
-use Rattle.gtid.proofs.Gathered.{Gathered}
+use Rattle.gtid.proofs.SpanGroups.{Gathered}
 use Rattle.gtid.proofs.gathering.gather_rising.Given as goal
 
 abbrev pub invariant-loop-left : goal.invariant-loop-left

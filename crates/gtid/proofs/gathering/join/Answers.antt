@@ -1,4 +1,4 @@
-use Rattle.gtid.proofs.Gathered.{joined_first, joined_on, joined_apart, joined_all}
+use Rattle.gtid.proofs.SpanGroups.{joined_first, joined_on, joined_apart, joined_all}
 use Rattle.gtid.proofs.gathering.join.Goals as goal
 
 pub loop-next-init : goal.loop-next-init

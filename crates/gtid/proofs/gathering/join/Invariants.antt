@@ -1,5 +1,5 @@
 use Rattle.std.proofs.Common.{length}
-use Rattle.gtid.proofs.Gathered.{Joined}
+use Rattle.gtid.proofs.SpanGroups.{Joined}
 use Rattle.gtid.proofs.gathering.join.Given as goal
 
 abbrev pub invariant-loop-next : goal.invariant-loop-next

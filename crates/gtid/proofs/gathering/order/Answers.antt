@@ -1,6 +1,5 @@
-use Rattle.std.proofs.Common.{◌∙◌, sym}
-use Rattle.std.proofs.lemmas.Bool.{true≢false}
-use Rattle.gtid.proofs.Gathered.{order_same, order_other}
+use Rattle.gtid.proofs.Names.{◌∙◌, sym, true≢false}
+use Rattle.gtid.proofs.SpanGroups.{order_same, order_other}
 use Rattle.gtid.proofs.gathering.order.Goals as goal
 
 pub returns-then-eq : goal.returns-then-eq

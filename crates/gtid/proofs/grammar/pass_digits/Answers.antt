@@ -1,4 +1,4 @@
-use Rattle.gtid.proofs.Scanned.{passed_lo, passed_hi}
+use Rattle.gtid.proofs.ScanComplete.{passed_lo, passed_hi}
 use Rattle.gtid.proofs.grammar.pass_digits.Goals as goal
 
 pub loop-rest-preserved : goal.loop-rest-preserved

@@ -1,6 +1,4 @@
-use Rattle.std.proofs.Common.{length}
-use Rattle.gtid.specs.Scan.{IsPassed}
-use Rattle.gtid.specs.declared.grammar.State.TheVariants.{Lo, Hi}
+use Rattle.gtid.proofs.Names.{length, IsPassed, Lo, Hi}
 use Rattle.gtid.proofs.grammar.pass_digits.Given as goal
 
 abbrev pub invariant-loop-rest : goal.invariant-loop-rest

@@ -1,5 +1,5 @@
 use Rattle.std.proofs.Common.{arith}
-use Rattle.gtid.proofs.Scanned.{passed_byte}
+use Rattle.gtid.proofs.ScanComplete.{passed_byte}
 use Rattle.gtid.proofs.grammar.pass_source.Goals as goal
 
 pub loop-left-preserved : goal.loop-left-preserved

@@ -1,5 +1,4 @@
-use Rattle.std.proofs.Common.{◌≤◌, length}
-use Rattle.gtid.specs.Scan.{IsPassed}
+use Rattle.gtid.proofs.Names.{◌≤◌, length, IsPassed}
 use Rattle.gtid.specs.declared.grammar.State.TheVariants.{Source}
 use Rattle.gtid.proofs.grammar.pass_source.Given as goal
 

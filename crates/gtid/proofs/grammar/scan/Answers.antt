@@ -1,5 +1,5 @@
 use Rattle.std.proofs.Common.{sym, ◌∙◌}
-use Rattle.gtid.proofs.Scanned.{passed_byte, passed_on}
+use Rattle.gtid.proofs.ScanComplete.{passed_byte, passed_on}
 use Rattle.gtid.proofs.Outside.{outside_here, outside_end, in_grammar_end}
 use Rattle.gtid.proofs.grammar.scan.Goals as goal
 

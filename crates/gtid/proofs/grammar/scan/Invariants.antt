@@ -1,6 +1,4 @@
-use Rattle.std.proofs.Common.{length}
-use Rattle.gtid.specs.Scan.{IsPlaced, IsPassed}
-use Rattle.gtid.specs.declared.grammar.State.TheVariants.{Start}
+use Rattle.gtid.proofs.Names.{length, IsPlaced, IsPassed, Start}
 use Rattle.gtid.proofs.grammar.scan.Given as goal
 
 abbrev pub invariant-loop-left : goal.invariant-loop-left

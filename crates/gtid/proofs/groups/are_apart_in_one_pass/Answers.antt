@@ -1,7 +1,5 @@
-use Rattle.std.proofs.Common.{[], refl, subst, sym}
-use Rattle.std.proofs.lemmas.Bool.{false≢true}
-use Rattle.std.specs.Bool.{IsTrue}
-use Rattle.gtid.proofs.Merged.{taken}
+use Rattle.gtid.proofs.Names.{[], refl, subst, sym, false≢true, IsTrue}
+use Rattle.gtid.proofs.GroupMerge.{taken}
 use Rattle.gtid.proofs.OnePass.{none_higher, passed_source, passed_numbers}
 use Rattle.gtid.proofs.groups.are_apart_in_one_pass.Goals as goal
 

@@ -1,9 +1,5 @@
-use Rattle.std.proofs.Common.{ap, sym, subst, ◌∙◌, arith, refl}
-use Rattle.std.proofs.lemmas.Grind.{common_steps}
-use Rattle.std.specs.Bool.{IsTrue}
-use Rattle.std.proofs.lemmas.Bool.{false≢true}
-use Rattle.gtid.specs.Interval.{has}
-use Rattle.gtid.proofs.Placed.{subset_more, subset_one}
+use Rattle.gtid.proofs.Names.{ap, sym, subst, ◌∙◌, arith, refl, common_steps, IsTrue, false≢true, has}
+use Rattle.gtid.proofs.SourcePlace.{subset_more, subset_one}
 use Rattle.gtid.proofs.groups.are_subset.Goals as goal
 
 pub returns-then-not-is_subset : goal.returns-then-not-is_subset

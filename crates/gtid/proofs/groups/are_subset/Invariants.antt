@@ -1,6 +1,4 @@
-use Rattle.std.proofs.Common.{◌≡◌, take, true}
-use Rattle.gtid.specs.Identifier.{Id}
-use Rattle.gtid.specs.Group.{is_listed}
+use Rattle.gtid.proofs.Names.{◌≡◌, take, true, Id, is_listed}
 use Rattle.gtid.proofs.groups.are_subset.Given as goal
 
 abbrev pub invariant-loop-group : goal.invariant-loop-group

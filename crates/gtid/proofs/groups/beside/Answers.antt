@@ -1,7 +1,7 @@
 use Rattle.std.proofs.Common.{◌∙◌, [], arith, ap, sym}
-use Rattle.gtid.proofs.Found.{any_default}
+use Rattle.gtid.proofs.GroupLookUp.{any_default}
 use Rattle.gtid.proofs.Around.{among_at, among_gap}
-use Rattle.gtid.proofs.Touching.{touches_none}
+use Rattle.gtid.proofs.Neighbours.{touches_none}
 use Rattle.gtid.proofs.groups.beside.Goals as goal
 
 pub beside-requires-clause-goes : goal.beside-requires-clause-goes

@@ -1,7 +1,6 @@
-use Rattle.std.proofs.Common.{refl, arith}
-use Rattle.std.proofs.lemmas.Grind.{common_steps}
+use Rattle.gtid.proofs.Names.{refl, arith, common_steps}
 use Rattle.std.proofs.lemmas.List.{nil_from_length}
-use Rattle.gtid.proofs.Merged.{merged_none, merged_push, merged_nothing, taken, turn}
+use Rattle.gtid.proofs.GroupMerge.{merged_none, merged_push, merged_nothing, taken, turn}
 use Rattle.gtid.proofs.groups.combine_groups.Goals as goal
 
 pub loop-source-init : goal.loop-source-init

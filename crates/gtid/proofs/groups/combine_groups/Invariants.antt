@@ -1,5 +1,5 @@
 use Rattle.std.proofs.Common.{length, ◌+◌}
-use Rattle.gtid.proofs.Merged.{Merged}
+use Rattle.gtid.proofs.GroupMerge.{Merged}
 use Rattle.gtid.proofs.groups.combine_groups.Given as goal
 
 abbrev pub invariant-loop-source : goal.invariant-loop-source

@@ -1,8 +1,7 @@
-use Rattle.std.proofs.Common.{◌≡◌, ◌∙◌, not, nat_eq, IfOk, ap, sym, subst}
-use Rattle.std.proofs.lemmas.Bool.{true≢false}
-use Rattle.std.proofs.lemmas.Result.{on_ok_weaker, on_err_weaker}
-use Rattle.gtid.specs.Group.{Ascend, sources}
-use Rattle.gtid.proofs.Found.{ascend_set, listed_set, listed_same, listed_at, listed_gap, listed_insert, ascend_insert, any_default}
+use Rattle.gtid.proofs.Names.{◌≡◌, ◌∙◌, not, nat_eq, IfOk, ap, sym, subst, true≢false, on_err_weaker, Ascend}
+use Rattle.std.proofs.lemmas.Result.{on_ok_weaker}
+use Rattle.gtid.specs.Group.{sources}
+use Rattle.gtid.proofs.GroupLookUp.{ascend_set, listed_set, listed_same, listed_at, listed_gap, listed_insert, ascend_insert, any_default}
 use Rattle.gtid.proofs.groups.insert.Goals as goal
 
 pub returns-in-Ok-clause-ascend : goal.returns-in-Ok-clause-ascend

@@ -1,6 +1,6 @@
 use Rattle.std.proofs.Common.{◌∙◌, nat_eq, ap, sym, subst, arith}
 use Rattle.gtid.specs.Group.{Ascend, sources}
-use Rattle.gtid.proofs.Found.{ascend_set, listed_set, listed_insert, ascend_insert, any_default}
+use Rattle.gtid.proofs.GroupLookUp.{ascend_set, listed_set, listed_insert, ascend_insert, any_default}
 use Rattle.gtid.proofs.Roomy.{with_room}
 use Rattle.gtid.proofs.groups.insert_reserved.Goals as goal
 

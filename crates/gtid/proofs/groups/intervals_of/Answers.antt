@@ -1,6 +1,5 @@
-use Rattle.std.proofs.Common.{ap, sym, ◌∙◌}
-use Rattle.gtid.specs.Interval.{has}
-use Rattle.gtid.proofs.Found.{any_default, listed_at, listed_gap}
+use Rattle.gtid.proofs.Names.{ap, sym, ◌∙◌, has}
+use Rattle.gtid.proofs.GroupLookUp.{any_default, listed_at, listed_gap}
 use Rattle.gtid.proofs.Around.{among_at, among_gap}
 use Rattle.gtid.proofs.groups.intervals_of.Goals as goal
 

@@ -1,6 +1,4 @@
-use Rattle.std.proofs.Common.{inl, inr, arith, sym}
-use Rattle.std.proofs.lemmas.Grind.{common_steps}
-use Rattle.std.specs.declared.cmp.Ordering.TheVariants.{Less}
+use Rattle.gtid.proofs.Names.{inl, inr, arith, sym, common_steps, Less}
 use Rattle.gtid.proofs.Lowest.{next_at, no_higher, lower}
 use Rattle.gtid.proofs.groups.lowest.Goals as goal
 

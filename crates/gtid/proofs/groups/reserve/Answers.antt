@@ -1,7 +1,5 @@
-use Rattle.std.proofs.Common.{◌∙◌, ap, sym}
-use Rattle.std.proofs.lemmas.Bool.{true≢false}
-use Rattle.gtid.specs.Interval.{has}
-use Rattle.gtid.proofs.Found.{any_default, ascend_set, listed_at, listed_gap, same_set}
+use Rattle.gtid.proofs.Names.{◌∙◌, ap, sym, true≢false, has}
+use Rattle.gtid.proofs.GroupLookUp.{any_default, ascend_set, listed_at, listed_gap, same_set}
 use Rattle.gtid.proofs.groups.reserve.Goals as goal
 
 pub returns-in_err-reserve-in-Ok-clause-ascend : goal.returns-in_err-reserve-in-Ok-clause-ascend

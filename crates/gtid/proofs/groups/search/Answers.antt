@@ -1,6 +1,6 @@
 use Rattle.std.proofs.Common.{rules}
 use Rattle.std.proofs.lemmas.Fn.{always_returns_same}
-use Rattle.gtid.proofs.Placed.{compares, found, missed}
+use Rattle.gtid.proofs.SourcePlace.{compares, found, missed}
 use Rattle.gtid.proofs.groups.search.Goals as goal
 
 pub returns-clause-found : goal.returns-clause-found

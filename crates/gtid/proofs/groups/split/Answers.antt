@@ -1,5 +1,4 @@
-use Rattle.std.proofs.Common.{sym, ◌∙◌, arith}
-use Rattle.std.proofs.lemmas.Grind.{common_steps}
+use Rattle.gtid.proofs.Names.{sym, ◌∙◌, arith, common_steps}
 use Rattle.gtid.proofs.Lowest.{splits_first}
 use Rattle.gtid.proofs.groups.split.Goals as goal
 

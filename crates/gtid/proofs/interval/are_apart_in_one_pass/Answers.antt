@@ -1,5 +1,4 @@
-use Rattle.std.proofs.lemmas.Bool.{false≢true}
-use Rattle.std.proofs.lemmas.List.{take_rest}
+use Rattle.gtid.proofs.Names.{false≢true, take_rest}
 use Rattle.gtid.proofs.OnePass.{apart_left, apart_part, apart_not}
 use Rattle.gtid.proofs.interval.are_apart_in_one_pass.Goals as goal
 

@@ -1,6 +1,6 @@
 use Rattle.std.proofs.Common.{◌<◌, arith, refl, ap}
 use Rattle.gtid.proofs.Within.{got, got_none}
-use Rattle.gtid.proofs.Touching.{touches_none, touches_above, touches_below, touches_gap}
+use Rattle.gtid.proofs.Neighbours.{touches_none, touches_above, touches_below, touches_gap}
 use Rattle.gtid.proofs.interval.beside.Goals as goal
 
 pub returns-in_default : goal.returns-in_default

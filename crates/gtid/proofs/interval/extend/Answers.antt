@@ -1,7 +1,6 @@
-use Rattle.std.proofs.Common.{◌≡◌, ◌+◌, ◌<◌, ◌∙◌, length, get_or, set, ap, arith}
+use Rattle.gtid.proofs.Names.{◌≡◌, ◌+◌, ◌<◌, ◌∙◌, length, get_or, set, ap, arith, Interval}
 use Rattle.std.proofs.lemmas.List.Edits.{get_or-remove_below}
 use Rattle.std.specs.List.{remove}
-use Rattle.gtid.specs.declared.interval.Interval.{Interval}
 use Rattle.gtid.proofs.Within.{Added, apart, added_after, added_between, got, got_none}
 use Rattle.gtid.proofs.interval.extend.Goals as goal
 use Rattle.gtid.proofs.interval.extend.Goals.{in-Some, in_default, in_default-via-in-Some+else-following-number, in_default-via-in_default}

@@ -1,7 +1,4 @@
-use Rattle.std.proofs.Common.{◌≡◌, ◌+◌, ◌<◌, ◌∙◌, length, ap, sym, arith, refl}
-use Rattle.std.specs.List.{AllWithin}
-use Rattle.std.proofs.lemmas.List.{get_or_default}
-use Rattle.std.proofs.lemmas.Bool.{true≢false}
+use Rattle.gtid.proofs.Names.{◌≡◌, ◌+◌, ◌<◌, ◌∙◌, length, ap, sym, arith, refl, AllWithin, get_or_default, true≢false}
 use Rattle.gtid.proofs.Within.{added_alone, added_before, added_last, goes_before, near_alone, near_last}
 use Rattle.gtid.proofs.interval.insert_at.Goals as goal
 

@@ -1,5 +1,4 @@
-use Rattle.std.proofs.Common.{◌≡◌, ℕ, true, take}
-use Rattle.gtid.specs.Interval.{has}
+use Rattle.gtid.proofs.Names.{◌≡◌, ℕ, true, take, has}
 use Rattle.gtid.proofs.interval.is_subset.Given as goal
 
 abbrev pub invariant-loop-interval : goal.invariant-loop-interval

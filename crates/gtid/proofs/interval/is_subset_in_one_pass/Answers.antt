@@ -1,5 +1,4 @@
-use Rattle.std.proofs.lemmas.Bool.{false≢true}
-use Rattle.std.proofs.lemmas.List.{take_rest}
+use Rattle.gtid.proofs.Names.{false≢true, take_rest}
 use Rattle.gtid.proofs.OnePass.{onward_left, onward_none, onward_gap}
 use Rattle.gtid.proofs.interval.is_subset_in_one_pass.Goals as goal
 

@@ -1,6 +1,4 @@
-use Rattle.std.proofs.Common.{◌∙◌, get_or, length, sym, arith}
-use Rattle.std.proofs.lemmas.List.{get_or_default}
-use Rattle.gtid.specs.declared.interval.Interval.{Interval}
+use Rattle.gtid.proofs.Names.{◌∙◌, get_or, length, sym, arith, get_or_default, Interval}
 use Rattle.gtid.proofs.Within.{has_at, has_nowhere, ends_at, is_after, weaker}
 use Rattle.gtid.proofs.interval.place.Goals as goal
 

@@ -1,8 +1,5 @@
-use Rattle.std.proofs.Common.{◌-◌, ltb, rules, arith, length, ap, inl, inr}
-use Rattle.std.proofs.lemmas.Bool.{cases_lt}
-use Rattle.std.proofs.lemmas.List.{get_or_default}
+use Rattle.gtid.proofs.Names.{◌-◌, ltb, rules, arith, length, ap, inl, inr, cases_lt, get_or_default, Interval}
 use Rattle.std.proofs.lemmas.List.Sorted.{IsPartitionPoint-from_clause, IsPartitionedBy-ltb}
-use Rattle.gtid.specs.declared.interval.Interval.{Interval}
 use Rattle.gtid.proofs.Within.{ends_ascend, apart, point_at}
 use Rattle.gtid.proofs.interval.place_within.Goals as goal
 

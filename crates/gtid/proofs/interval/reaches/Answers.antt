@@ -1,6 +1,4 @@
-use Rattle.std.proofs.Common.{◌-◌, arith, length, ap}
-use Rattle.std.proofs.lemmas.Bool.{leb-false}
-use Rattle.std.proofs.lemmas.List.{get_or_default}
+use Rattle.gtid.proofs.Names.{◌-◌, arith, length, ap, leb-false, get_or_default}
 use Rattle.gtid.proofs.Within.{ends_ascend}
 use Rattle.gtid.proofs.interval.reaches.Goals as goal
 

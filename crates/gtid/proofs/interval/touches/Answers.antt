@@ -1,6 +1,5 @@
-use Rattle.std.proofs.Common.{◌<◌, length, arith, refl}
+use Rattle.gtid.proofs.Names.{◌<◌, length, arith, refl, AllWithin}
 use Rattle.std.proofs.lemmas.Bool.{eqb-true, eqb-false}
-use Rattle.std.specs.List.{AllWithin}
 use Rattle.gtid.proofs.Within.{got, got_none, near_last, near_alone, goes_before, near_below, near_above}
 use Rattle.gtid.proofs.interval.touches.Goals as goal
 

@@ -1,6 +1,6 @@
 use Rattle.std.proofs.Common.{decimal, refl, arith}
 use Rattle.uuid.specs.Text.{hyphenated_text, lower}
-use Rattle.gtid.proofs.TextRead.{is_numeral, lowered}
+use Rattle.gtid.proofs.PrintedText.{is_numeral, lowered}
 use Rattle.gtid.proofs.laws.gtid_text_is_read.Goals as goal
 
 pub returns : goal.returns

@@ -1,4 +1,4 @@
-use Rattle.gtid.proofs.Decoded.{one_front, no_fault_at_front}
+use Rattle.gtid.proofs.GroupSets.{one_front, no_fault_at_front}
 use Rattle.gtid.proofs.OneFault.{one_fault}
 use Rattle.gtid.proofs.SomeDecoding.{some_decoding}
 use Rattle.gtid.proofs.laws.one_reading_of_bytes.Goals as goal

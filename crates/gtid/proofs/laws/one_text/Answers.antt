@@ -1,7 +1,5 @@
-use Rattle.std.proofs.Common.{ap, sym, ◌∙◌, codes}
-use Rattle.std.specs.List.{join_by}
+use Rattle.gtid.proofs.Names.{ap, sym, ◌∙◌, codes, join_by, block_text}
 use Rattle.gtid.specs.Encoding.{grouped}
-use Rattle.gtid.specs.Text.{block_text}
 use Rattle.gtid.proofs.OneLeastList.{one_least_list}
 use Rattle.gtid.proofs.laws.one_text.Goals as goal
 

@@ -1,4 +1,4 @@
-use Rattle.gtid.proofs.TextRead as lemma
+use Rattle.gtid.proofs.PrintedText as lemma
 use Rattle.gtid.proofs.laws.text_is_read.Goals as goal
 
 pub returns : goal.returns

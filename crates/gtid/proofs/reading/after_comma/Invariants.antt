@@ -1,5 +1,4 @@
-use Rattle.std.proofs.Common.{◌≡◌, ℕ, List, ◌≤◌, length}
-use Rattle.gtid.specs.Reading.{collected}
+use Rattle.gtid.proofs.Names.{◌≡◌, ℕ, List, ◌≤◌, length, collected}
 use Rattle.gtid.specs.Reading.Part.{After}
 use Rattle.gtid.proofs.reading.after_comma.Given as goal
 

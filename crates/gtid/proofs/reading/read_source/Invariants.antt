@@ -1,6 +1,4 @@
-use Rattle.std.proofs.Common.{◌≡◌, ◌≤◌, length}
-use Rattle.gtid.specs.Reading.{collected}
-use Rattle.gtid.specs.Reading.Part.{Source}
+use Rattle.gtid.proofs.Names.{◌≡◌, ◌≤◌, length, collected, Source}
 use Rattle.gtid.proofs.reading.read_source.Given as goal
 
 abbrev pub invariant-loop-left : goal.invariant-loop-left

@@ -1,9 +1,6 @@
-use Rattle.std.proofs.Common.{◌∙◌, ap, refl, []}
-use Rattle.std.proofs.lemmas.Result.{err_from_is_err_and}
-use Rattle.gtid.specs.Reading.{judge, collected}
-use Rattle.gtid.specs.Reading.Part.{Source}
-use Rattle.gtid.proofs.Judged.{judged_range}
-use Rattle.gtid.proofs.Collected.{zeros, err_exit, reads_list, some_items}
+use Rattle.gtid.proofs.Names.{◌∙◌, ap, refl, [], err_from_is_err_and, judge, collected, Source}
+use Rattle.gtid.proofs.TextFaults.{judged_range}
+use Rattle.gtid.proofs.TextItems.{zeros, err_exit, reads_list, some_items}
 use Rattle.gtid.proofs.reading.read_spans.Goals as goal
 
 pub returns-in_err-left-clause-err : goal.returns-in_err-left-clause-err

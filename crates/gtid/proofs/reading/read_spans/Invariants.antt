@@ -1,6 +1,4 @@
-use Rattle.std.proofs.Common.{◌≡◌, length, []}
-use Rattle.gtid.specs.Reading.{judge, collected}
-use Rattle.gtid.specs.Reading.Part.{Source}
+use Rattle.gtid.proofs.Names.{◌≡◌, length, [], judge, collected, Source}
 use Rattle.gtid.proofs.reading.read_spans.Given as goal
 
 abbrev pub invariant-loop-after : goal.invariant-loop-after

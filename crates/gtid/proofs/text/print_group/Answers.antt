@@ -1,13 +1,7 @@
-use Rattle.std.proofs.Common.{refl, slice_index_or, arith}
-use Rattle.std.proofs.lemmas.List.{get_or_default}
-use Rattle.std.proofs.lemmas.Result.{err_from_is_err_and}
-use Rattle.std.specs.String.{string_bytes}
-use Rattle.uuid.specs.Text.{lower, hyphenated_text}
-use Rattle.gtid.specs.Text.{interval_text, block_text}
-use Rattle.gtid.specs.Blocks.{pair, of_group}
-use Rattle.gtid.specs.declared.interval.Interval.{Interval}
+use Rattle.gtid.proofs.Names.{refl, slice_index_or, arith, get_or_default, err_from_is_err_and, string_bytes, lower, hyphenated_text, interval_text, block_text, of_group, Interval}
+use Rattle.gtid.specs.Blocks.{pair}
 use Rattle.gtid.proofs.Within.{each}
-use Rattle.gtid.proofs.Printed.{grows_all, prints_none, prints_more, prints_fit}
+use Rattle.gtid.proofs.AsciiText.{grows_all, prints_none, prints_more, prints_fit}
 use Rattle.gtid.proofs.text.print_group.Goals as goal
 
 pub loop-interval-init : goal.loop-interval-init

@@ -1,8 +1,6 @@
-use Rattle.std.proofs.Common.{◌≤◌}
-use Rattle.std.specs.String.{string_bytes, string_capacity}
-use Rattle.gtid.specs.Text.{interval_text, block_text}
-use Rattle.gtid.specs.Blocks.{pair, of_group}
-use Rattle.gtid.proofs.Printed.{Prints}
+use Rattle.gtid.proofs.Names.{◌≤◌, string_bytes, string_capacity, interval_text, block_text, of_group}
+use Rattle.gtid.specs.Blocks.{pair}
+use Rattle.gtid.proofs.AsciiText.{Prints}
 use Rattle.gtid.proofs.text.print_group.Given as goal
 
 abbrev pub invariant-loop-interval : goal.invariant-loop-interval

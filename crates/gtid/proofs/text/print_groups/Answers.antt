@@ -1,10 +1,5 @@
-use Rattle.std.proofs.Common.{◌++◌, codes, ap, ◌∙◌, append_assoc, arith}
-use Rattle.std.proofs.lemmas.Result.{err_from_is_err_and}
-use Rattle.std.specs.String.{string_bytes}
-use Rattle.gtid.specs.Identifier.{IsSource}
-use Rattle.gtid.specs.Text.{block_text}
-use Rattle.gtid.specs.Blocks.{of_group}
-use Rattle.gtid.proofs.Printed.{grows_none, grows_by, grows_all, comma_ascii, prints_more, prints_fit, all_more}
+use Rattle.gtid.proofs.Names.{◌++◌, codes, ap, ◌∙◌, append_assoc, arith, err_from_is_err_and, string_bytes, IsSource, block_text, of_group}
+use Rattle.gtid.proofs.AsciiText.{grows_none, grows_by, grows_all, comma_ascii, prints_more, prints_fit, all_more}
 use Rattle.gtid.proofs.text.print_groups.Goals as goal
 
 pub returns-in_err-print_group-2-clause-grows : goal.returns-in_err-print_group-2-clause-grows

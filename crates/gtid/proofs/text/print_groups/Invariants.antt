@@ -1,10 +1,6 @@
-use Rattle.std.proofs.Common.{◌++◌, ◌≤◌, codes, take}
-use Rattle.std.specs.String.{string_bytes, string_capacity}
-use Rattle.std.specs.List.{join_by, AllByRecursion}
-use Rattle.gtid.specs.Identifier.{IsSource}
-use Rattle.gtid.specs.Text.{block_text}
-use Rattle.gtid.specs.Blocks.{of_group, blocks}
-use Rattle.gtid.proofs.Printed.{Prints}
+use Rattle.gtid.proofs.Names.{◌++◌, ◌≤◌, codes, take, string_bytes, string_capacity, join_by, AllByRecursion, IsSource, block_text, of_group}
+use Rattle.gtid.specs.Blocks.{blocks}
+use Rattle.gtid.proofs.AsciiText.{Prints}
 use Rattle.gtid.proofs.text.print_groups.Given as goal
 
 abbrev pub invariant-loop-group : goal.invariant-loop-group

@@ -1,4 +1,4 @@
-use Rattle.gtid.proofs.Printed.{grows_none, grows_same, grows_by, grows_all, colon_ascii, hyphen_ascii}
+use Rattle.gtid.proofs.AsciiText.{grows_none, grows_same, grows_by, grows_all, colon_ascii, hyphen_ascii}
 use Rattle.gtid.proofs.text.print_interval.Goals as goal
 
 pub returns-in_ok-push_str-4-clause-grows : goal.returns-in_ok-push_str-4-clause-grows

@@ -1,8 +1,6 @@
-use Rattle.std.proofs.Common.{◌≡◌, ◌++◌, ap, ◌∙◌, inl, refl}
-use Rattle.std.specs.String.{string_bytes}
-use Rattle.uuid.specs.Text.{lower, hyphenated_text}
+use Rattle.gtid.proofs.Names.{◌≡◌, ◌++◌, ap, ◌∙◌, inl, refl, string_bytes, lower, hyphenated_text}
 use Rattle.uuid.proofs.TextLemmas.{hyphenated_ascii}
-use Rattle.gtid.proofs.Printed.{grows_none, grows_same, grows_by, all_bytes}
+use Rattle.gtid.proofs.AsciiText.{grows_none, grows_same, grows_by, all_bytes}
 use Rattle.gtid.proofs.text.print_source.Goals as goal
 
 pub returns-clause-grows : goal.returns-clause-grows

@@ -1,8 +1,7 @@
-use Rattle.std.proofs.Common.{None}
-use Rattle.sqlite_wal.specs.Files.{image_at}
+use Rattle.replica.proofs.Names.{None, image_at}
 use Rattle.replica.specs.AdoptFile.{AdoptsTo, IsLeftOfAdopt}
-use Rattle.replica.proofs.Closed.{closes_as}
-use Rattle.replica.proofs.StayedFiles.{ends_with}
+use Rattle.replica.proofs.CaptureFiles.{closes_as}
+use Rattle.replica.proofs.ContentStays.{ends_with}
 use Rattle.replica.proofs.adopted_file.adopt_file.Goals as goal
 
 pub returns-clause-adopts : goal.returns-clause-adopts

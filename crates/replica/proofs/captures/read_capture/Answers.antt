@@ -1,5 +1,5 @@
 use Rattle.std.proofs.Common.{ap, length}
-use Rattle.replica.proofs.Captured.{read_one, broken_off, unread_one, first_of}
+use Rattle.replica.proofs.CaptureList.{read_one, broken_off, unread_one, first_of}
 use Rattle.replica.proofs.Keeps.{keeps_same}
 use Rattle.replica.proofs.captures.read_capture.Goals as goal
 

@@ -1,20 +1,16 @@
-use Rattle.std.proofs.Common.{rules, ◌≡◌, ◌++◌, ◌∷◌, [], ◌+◌, List, slice_get, take, length, append-nil, refl, sym, ap, ◌∙◌, subst, subst₂, All}
+use Rattle.replica.proofs.Names.{rules, ◌≡◌, ◌++◌, ◌∷◌, [], ◌+◌, List, take, length, append-nil, refl, sym, ap, ◌∙◌, subst, subst₂, All, take_more, Capture, Ended, HasReadAll, AreRead, MayEnd, ended, KeepsSinceOpening}
+use Rattle.std.proofs.Common.{slice_get}
 use Rattle.std.proofs.lemmas.Bool.{not-false, not-true}
-use Rattle.std.proofs.lemmas.List.{take_more, length_push}
+use Rattle.std.proofs.lemmas.List.{length_push}
 use Rattle.std.proofs.Math.Seq.{take-length}
 use Rattle.std.proofs.lemmas.Option.{slice_get_read}
 use Rattle.std.proofs.lemmas.Iterator.Consumers.{YieldsList-turn, YieldsList-end}
 use Rattle.std.proofs.lemmas.Iterator.Adapters.{YieldsList-from_vec}
 use Rattle.sqlite.specs.Held.{state}
-use Rattle.replica.specs.declared.captures.Capture.{Capture}
-use Rattle.replica.specs.declared.end.Ended.{Ended}
-use Rattle.replica.specs.Over.{HasReadAll}
-use Rattle.replica.specs.Capture.{AreRead, AreReadUpTo}
-use Rattle.replica.proofs.Observed.{ends_later, more_ends, none_yet, one_at_most}
-use Rattle.replica.specs.Noted.{MayEnd, ended}
-use Rattle.replica.proofs.Missing.{missing_first}
-use Rattle.replica.proofs.Captured.{no_captures, captures_more, breaks_off}
-use Rattle.replica.specs.Keeps.{KeepsSinceOpening}
+use Rattle.replica.specs.Capture.{AreReadUpTo}
+use Rattle.replica.proofs.ObserverEnds.{ends_later, more_ends, none_yet, one_at_most}
+use Rattle.replica.proofs.WaitSets.{missing_first}
+use Rattle.replica.proofs.CaptureList.{no_captures, captures_more, breaks_off}
 use Rattle.replica.proofs.Keeps.{keeps_then, keeps_ended, since_opened, since_then, misses_then}
 use Rattle.replica.proofs.captures.read_captures.Goals as goal
 

@@ -1,12 +1,6 @@
-use Rattle.std.proofs.Common.{◌≡◌, ◌≢◌, ◌<◌, ◌≤◌, Bool, false, [], length, take, vec_capacity, All}
-use Rattle.sqlite.specs.State.{HasCleanDisk}
+use Rattle.replica.proofs.Names.{◌≡◌, ◌≢◌, ◌<◌, ◌≤◌, Bool, false, [], length, take, All, HasCleanDisk, Content, HoldsAs, HasReadAll, AreRead, MayEnd, KeepsSinceOpening}
+use Rattle.std.proofs.Common.{vec_capacity}
 use Rattle.sqlite.specs.Held.{state}
-use Rattle.store.specs.State.{Content}
-use Rattle.store.specs.Store.{HoldsAs}
-use Rattle.replica.specs.Over.{HasReadAll}
-use Rattle.replica.specs.Capture.{AreRead}
-use Rattle.replica.specs.Noted.{MayEnd}
-use Rattle.replica.specs.Keeps.{KeepsSinceOpening}
 use Rattle.replica.proofs.Keeps.{MissesSince}
 use Rattle.replica.proofs.captures.read_captures.Given as goal
 

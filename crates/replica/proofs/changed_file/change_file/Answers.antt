@@ -1,9 +1,6 @@
-use Rattle.std.proofs.Common.{[], inl, refl}
-use Rattle.sqlite_wal.specs.Files.{image_at}
-use Rattle.store.specs.Changes.{adopted}
-use Rattle.store.specs.Entering.{wanted_of, names_for}
-use Rattle.replica.proofs.Closed.{closes_as, noted_of_files}
-use Rattle.replica.proofs.Changed.{changed_into, keeps_whole}
+use Rattle.replica.proofs.Names.{[], inl, refl, image_at, adopted, wanted_of, names_for}
+use Rattle.replica.proofs.CaptureFiles.{closes_as, noted_of_files}
+use Rattle.replica.proofs.ChangeFiles.{changed_into, keeps_whole}
 use Rattle.replica.proofs.changed_file.change_file.Goals as goal
 
 pub returns-clause-changes : goal.returns-clause-changes

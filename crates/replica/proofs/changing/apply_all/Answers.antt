@@ -1,6 +1,5 @@
-use Rattle.std.proofs.Common.{◌∙◌, arith, sym}
-use Rattle.store.specs.Changes.{adopted}
-use Rattle.replica.proofs.Taking.{none_taken, one_taken, until_ended, too_many, ended, counts, counts_one}
+use Rattle.replica.proofs.Names.{◌∙◌, arith, sym, adopted}
+use Rattle.replica.proofs.InOrder.{none_taken, one_taken, until_ended, too_many, ended, counts, counts_one}
 use Rattle.replica.proofs.Keeps.{keeps_same, keeps_then}
 use Rattle.replica.proofs.changing.apply_all.Goals as goal
 

@@ -1,9 +1,6 @@
-use Rattle.std.proofs.Common.{◌≤◌, []}
-use Rattle.sqlite.specs.State.{HasCleanDisk}
-use Rattle.store.specs.State.{Content}
-use Rattle.store.specs.Store.{Holds, database}
+use Rattle.replica.proofs.Names.{◌≤◌, [], HasCleanDisk, Content, database, KeepsObserved}
+use Rattle.store.specs.Store.{Holds}
 use Rattle.replica.specs.Changing.{HasTakenSome}
-use Rattle.replica.specs.Keeps.{KeepsObserved}
 use Rattle.replica.proofs.changing.apply_all.Given as goal
 
 abbrev pub invariant-loop-taken : goal.invariant-loop-taken

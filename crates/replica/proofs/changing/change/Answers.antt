@@ -1,9 +1,7 @@
-use Rattle.std.proofs.Common.{[], false, refl, sym, subst}
-use Rattle.store.specs.Changes.{adopted}
+use Rattle.replica.proofs.Names.{[], false, refl, sym, subst, adopted, HasChanged}
 use Rattle.store.specs.Store.{Holds}
-use Rattle.replica.specs.Changing.{HasChanged}
-use Rattle.replica.proofs.Changed.{unless_begun, since_likewise}
-use Rattle.replica.proofs.Taking.{not_adopted}
+use Rattle.replica.proofs.ChangeFiles.{unless_begun, since_likewise}
+use Rattle.replica.proofs.InOrder.{not_adopted}
 use Rattle.replica.proofs.Keeps.{store_then, since_opened, since_then}
 use Rattle.replica.proofs.changing.change.Goals as goal
 

@@ -1,5 +1,4 @@
-use Rattle.std.proofs.Common.{refl, subst}
-use Rattle.gather.specs.View.{delivery_value}
+use Rattle.replica.proofs.Names.{refl, subst, delivery_value}
 use Rattle.replica.specs.Given.{GivesOne}
 use Rattle.replica.proofs.Keeps.{keeps_same}
 use Rattle.replica.proofs.changing.take_next.Goals as goal

@@ -1,9 +1,7 @@
-use Rattle.std.proofs.Common.{None}
-use Rattle.sqlite_wal.specs.Files.{image_at}
-use Rattle.store.specs.Entering.{names_for}
-use Rattle.replica.proofs.Closed.{closes_as}
+use Rattle.replica.proofs.Names.{None, image_at, names_for}
+use Rattle.replica.proofs.CaptureFiles.{closes_as}
 use Rattle.replica.proofs.ClearFiles.{cleared_into, noted_since}
-use Rattle.replica.proofs.StayedFiles.{keeps_stayed}
+use Rattle.replica.proofs.ContentStays.{keeps_stayed}
 use Rattle.replica.proofs.cleared_file.clear_file.Goals as goal
 
 pub returns-clause-clears : goal.returns-clause-clears

@@ -1,10 +1,8 @@
-use Rattle.std.proofs.Common.{◌≡◌, ◌++◌, ◌∷◌, ◌+◌, ℕ, List, [], Vec, Global, take, sym, ap, ◌∙◌, subst}
-use Rattle.std.proofs.lemmas.List.{take_more, take_all}
+use Rattle.replica.proofs.Names.{◌≡◌, ◌++◌, ◌∷◌, ◌+◌, ℕ, List, [], Vec, Global, take, sym, ap, ◌∙◌, subst, take_more, Ended, IsOwn, StandsOver}
+use Rattle.std.proofs.lemmas.List.{take_all}
 use Rattle.sqlite.specs.Held.{state}
-use Rattle.replica.specs.declared.end.Ended.{Ended}
-use Rattle.replica.specs.Conn.{IsOwn}
 use Rattle.replica.specs.Pieces.{stream_of}
-use Rattle.replica.specs.Over.{StandsOver, HasRead}
+use Rattle.replica.specs.Over.{HasRead}
 use Rattle.replica.proofs.Histories.{stream-more}
 use Rattle.replica.proofs.Runs.{begins, read_all}
 use Rattle.replica.proofs.Keeps.{store_same, store_then}

@@ -1,13 +1,6 @@
-use Rattle.std.proofs.Common.{◌≡◌, Bool, [], take}
-use Rattle.sqlite.specs.State.{HasCleanDisk}
+use Rattle.replica.proofs.Names.{◌≡◌, Bool, [], take, HasCleanDisk, Content, HoldsAs, IsOwn, end_of, StandsOver, KeepsStore}
 use Rattle.sqlite.specs.Held.{state}
-use Rattle.store.specs.State.{Content}
-use Rattle.store.specs.Store.{HoldsAs}
-use Rattle.replica.specs.Conn.{IsOwn}
 use Rattle.replica.specs.Pieces.{stream_of}
-use Rattle.replica.specs.Standing.{end_of}
-use Rattle.replica.specs.Over.{StandsOver}
-use Rattle.replica.specs.Keeps.{KeepsStore}
 use Rattle.replica.proofs.connections.read_pieces.Given as goal
 
 abbrev pub invariant-loop-piece : goal.invariant-loop-piece

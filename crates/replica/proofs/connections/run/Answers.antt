@@ -1,11 +1,8 @@
-use Rattle.std.proofs.Common.{rules, ◌≡◌, ◌++◌, ◌∷◌, [], ◌+◌, ℕ, List, Vec, Global, take, sym, ap, ◌∙◌, subst, All}
-use Rattle.std.proofs.lemmas.List.{take_more}
+use Rattle.replica.proofs.Names.{rules, ◌≡◌, ◌++◌, ◌∷◌, [], ◌+◌, ℕ, List, Vec, Global, take, sym, ap, ◌∙◌, subst, All, take_more, Ended, IsOwn, streams_of, HasReadAll}
 use Rattle.std.proofs.lemmas.List.Elements.{All-push}
 use Rattle.sqlite.specs.Held.{state}
-use Rattle.replica.specs.declared.end.Ended.{Ended}
-use Rattle.replica.specs.Conn.{IsOwn}
-use Rattle.replica.specs.Pieces.{stream_of, streams_of}
-use Rattle.replica.specs.Over.{HasRead, HasReadAll}
+use Rattle.replica.specs.Pieces.{stream_of}
+use Rattle.replica.specs.Over.{HasRead}
 use Rattle.replica.proofs.Runs.{none_read, next_read}
 use Rattle.replica.proofs.Keeps.{store_same, store_then}
 use Rattle.replica.proofs.connections.run.Goals as goal

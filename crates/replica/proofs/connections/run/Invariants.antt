@@ -1,12 +1,6 @@
-use Rattle.std.proofs.Common.{◌≡◌, ◌≤◌, Bool, take, length, vec_len, vec_capacity, All}
-use Rattle.sqlite.specs.State.{HasCleanDisk}
+use Rattle.replica.proofs.Names.{◌≡◌, ◌≤◌, Bool, take, length, All, HasCleanDisk, Content, HoldsAs, IsOwn, streams_of, HasReadAll, KeepsStore}
+use Rattle.std.proofs.Common.{vec_len, vec_capacity}
 use Rattle.sqlite.specs.Held.{state}
-use Rattle.store.specs.State.{Content}
-use Rattle.store.specs.Store.{HoldsAs}
-use Rattle.replica.specs.Conn.{IsOwn}
-use Rattle.replica.specs.Pieces.{streams_of}
-use Rattle.replica.specs.Over.{HasReadAll}
-use Rattle.replica.specs.Keeps.{KeepsStore}
 use Rattle.replica.proofs.connections.run.Given as goal
 
 abbrev pub invariant-loop-pieces : goal.invariant-loop-pieces

@@ -1,9 +1,7 @@
-use Rattle.std.proofs.Common.{Bool, true, false, [], subst, sym, ◌∙◌, refl}
-use Rattle.gather.specs.View.{delivery_value}
-use Rattle.store.specs.Store.{HoldsAs}
+use Rattle.replica.proofs.Names.{Bool, true, false, [], subst, sym, ◌∙◌, refl, delivery_value, HoldsAs, HasNotices, Account, IsLedOver}
 use Rattle.replica.specs.Event.{TakesEvent}
-use Rattle.replica.specs.Noted.{HasNotices, asked_about, Account, IsLedOver}
-use Rattle.replica.proofs.Noted.{Asks, led_to_stop, led_broken, led_whole}
+use Rattle.replica.specs.Noted.{asked_about}
+use Rattle.replica.proofs.Notices.{Asks, led_to_stop, led_broken, led_whole}
 use Rattle.replica.proofs.Events.{halts, over_broken, over_whole, heeded}
 use Rattle.replica.proofs.Alone.{own_alone, taken_alone}
 use Rattle.replica.proofs.Keeps.{store_same}

@@ -1,7 +1,8 @@
-use Rattle.std.proofs.Common.{◌≡◌, ◌≤◌, get_or, length, arith}
+use Rattle.replica.proofs.Names.{◌≡◌, ◌≤◌, false, get_or, length, arith, rules, begins_event}
 use Rattle.binlog.specs.EventView.{event_value}
 use Rattle.replica.proofs.Events.{carries_event, events_end}
-use Rattle.replica.proofs.Noted.{no_notice}
+use Rattle.replica.proofs.Notices.{no_notice}
+use Rattle.replica.proofs.Sees.{without_event, unread_event, sees_event}
 use Rattle.replica.proofs.dump.gather.Goals as goal
 
 pub returns-in_default-clause-err : goal.returns-in_default-clause-err
@@ -30,3 +31,30 @@ returns-in_default-clause-noticed g c = no_notice
 
 pub returns-in-Err-clause-noticed : goal.returns-in-Err-clause-noticed
 returns-in-Err-clause-noticed g c = no_notice
+
+pub returns-in_default-clause-sees : goal.returns-in_default-clause-sees
+returns-in_default-clause-sees g c es ds stands =
+    let other : begins_event c.args.payload.now ≡ false = search rules in
+    without_event c.args.follow.now es c.args.payload.now (g.W.Observer.account c.args.observer.now) other
+
+pub returns-in-Err-clause-sees : goal.returns-in-Err-clause-sees
+returns-in-Err-clause-sees g c es ds stands =
+    let some : 1 ≤ length c.args.payload.now = c.in-0.len_at_least in
+    let first : get_or c.args.payload.now 0 0 ≡ 0 = omega arith in
+    unread_event c.args.follow.now es c.args.payload.now (g.W.Observer.account c.args.observer.now) some first c.in-Err.ensures.only
+
+pub returns-in-Ok-event-clause-sees : goal.returns-in-Ok-event-clause-sees
+returns-in-Ok-event-clause-sees g c es ds stands =
+    let some : 1 ≤ length c.args.payload.now = c.in-0.len_at_least in
+    let first : get_or c.args.payload.now 0 0 ≡ 0 = omega arith in
+    let e = event_value c.in-Ok.event in
+    sees_event c.args.follow.now es c.args.payload.now (g.W.Observer.account c.args.observer.now) (g.W.Observer.account c.event.new.self) e c.pending.result some first
+    (carries_event c.args.follow.now c.args.payload.now e some first c.in-Ok.ensures.found) (c.pending.ensures es ds stands) c.event.ensures.seen
+
+pub returns-in-Err-event-clause-sees : goal.returns-in-Err-event-clause-sees
+returns-in-Err-event-clause-sees g c es ds stands =
+    let some : 1 ≤ length c.args.payload.now = c.in-0.len_at_least in
+    let first : get_or c.args.payload.now 0 0 ≡ 0 = omega arith in
+    let e = event_value c.in-Ok.event in
+    sees_event c.args.follow.now es c.args.payload.now (g.W.Observer.account c.args.observer.now) (g.W.Observer.account c.event.new.self) e c.pending.result some first
+    (carries_event c.args.follow.now c.args.payload.now e some first c.in-Ok.ensures.found) (c.pending.ensures es ds stands) c.event.ensures.seen

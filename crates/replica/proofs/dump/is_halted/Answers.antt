@@ -1,7 +1,5 @@
-use Rattle.std.proofs.Common.{rules, ◌≡◌, true, false}
-use Rattle.gather.specs.View.{delivery_value}
-use Rattle.store.specs.Changes.{is_executed}
-use Rattle.replica.proofs.Noted.{asked_known, asked_new}
+use Rattle.replica.proofs.Names.{rules, ◌≡◌, true, false, delivery_value, is_executed}
+use Rattle.replica.proofs.Notices.{asked_known, asked_new}
 use Rattle.replica.proofs.dump.is_halted.Goals as goal
 
 pub returns-then-contains-clause-noticed : goal.returns-then-contains-clause-noticed

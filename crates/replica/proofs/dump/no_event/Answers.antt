@@ -1,5 +1,4 @@
-use Rattle.replica.specs.Stream.{InDump}
-use Rattle.replica.specs.Message.{refusal_of}
+use Rattle.replica.proofs.Names.{InDump, refusal_of}
 use Rattle.replica.proofs.Messages.{dump_ends}
 use Rattle.replica.proofs.dump.no_event.Goals as goal
 

@@ -1,11 +1,6 @@
-use Rattle.std.proofs.Common.{inl, refl}
-use Rattle.sqlite.specs.State.{HasCleanDisk}
-use Rattle.sqlite.specs.Files.{file_state}
-use Rattle.sqlite_wal.specs.Files.{image_at}
-use Rattle.sqlite_store.specs.Laws.{settled_at}
-use Rattle.store.specs.Entering.{wanted_of, names_for}
-use Rattle.replica.proofs.Filed.{reads_left, leaves_left}
-use Rattle.replica.proofs.Cut.{still_hold}
+use Rattle.replica.proofs.Names.{inl, refl, HasCleanDisk, file_state, image_at, settled_at, wanted_of, names_for}
+use Rattle.replica.proofs.OpeningReads.{reads_left, leaves_left}
+use Rattle.replica.proofs.CutOpenings.{still_hold}
 use Rattle.replica.proofs.file.open_file.Goals as goal
 
 pub returns-in-Ok-open_for-clause-opens : goal.returns-in-Ok-open_for-clause-opens

@@ -1,11 +1,10 @@
-use Rattle.std.proofs.Common.{Bool, ℕ, List, cond, ap, ap₂, subst, ◌∙◌, ◌+◌, ◌&&◌}
+use Rattle.replica.proofs.Names.{Bool, ℕ, List, ap, ap₂, subst, ◌∙◌, ◌+◌, ◌&&◌, Image, file_state}
+use Rattle.std.proofs.Common.{cond}
 use Rattle.sqlite_disk.specs.Events.{Event, Model, replay}
 use Rattle.sqlite_disk.specs.Tally.{both_counts}
 use Rattle.sqlite_disk.specs.declared.tally.Tally.{Tally}
-use Rattle.sqlite_wal.specs.Recovery.{Image}
-use Rattle.sqlite.specs.Files.{file_state}
 use Rattle.sqlite.specs.Start.{FindsIn}
-use Rattle.replica.proofs.Filed.{settled_model, left_settled}
+use Rattle.replica.proofs.OpeningReads.{settled_model, left_settled}
 use Rattle.replica.proofs.file_connection.connect_to.Goals as goal
 
 image : List ℕ → List ℕ → Image

@@ -1,4 +1,4 @@
-use Rattle.std.proofs.Common.{refl}
+use Rattle.replica.proofs.Names.{Ok, Err, refl, subst, Ids}
 use Rattle.replica.proofs.Keeps.{keeps_noticed, keeps_then, since_opened, since_then}
 use Rattle.replica.proofs.followed_file.connect_and_follow.Goals as goal
 
@@ -7,15 +7,19 @@ returns-in-Ok-clause-connects g c clean was old holds =
     let followed = rw c.new-counted.ensures at c.follow_observed-end.ensures in
     record {
       stream = c.in-Ok.stream;
-      given = c.in-Ok.ensures;
+      given = subst (λ (ids : Ids). g.C.Connect.gives c.args.connect ids (Ok c.in-Ok.stream)) (c.executed-executed.ensures.value was old holds) c.in-Ok.ensures;
       follows = followed.follows clean was old holds;
       reported = followed.reported;
     }
 
+pub returns-in-Err-clause-connects : goal.returns-in-Err-clause-connects
+returns-in-Err-clause-connects g c clean was old holds =
+    (subst (λ (ids : Ids). g.C.Connect.gives c.args.connect ids (Err c.in-Err.cause)) (c.executed-executed.ensures.value was old holds) c.in-Err.ensures, refl)
+
 pub returns-in-Ok-clause-keeps : goal.returns-in-Ok-clause-keeps
 returns-in-Ok-clause-keeps g c =
-    since_then g.S.Store (λ some. absurd (some refl)) refl (λ some. absurd (some refl)) (since_opened g.S.Store c.executed.ensures.value c.opened.ensures.noticed)
+    since_then g.S.Store (λ some. absurd (some refl)) refl (λ some. absurd (some refl)) (since_opened g.S.Store c.executed-executed.ensures.value c.opened.ensures.noticed)
     (keeps_then g.S.Store (keeps_noticed g.S.Store c.connected.ensures.noticed) c.follow_observed-end.ensures.keeps)
 
 pub returns-in-Err-clause-keeps : goal.returns-in-Err-clause-keeps
-returns-in-Err-clause-keeps g c = since_opened g.S.Store c.executed.ensures.value c.opened.ensures.noticed
+returns-in-Err-clause-keeps g c = since_opened g.S.Store c.executed-executed.ensures.value c.opened.ensures.noticed

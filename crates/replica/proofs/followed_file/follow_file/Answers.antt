@@ -1,10 +1,8 @@
-use Rattle.std.proofs.Common.{[], false, inl, refl}
+use Rattle.replica.proofs.Names.{[], false, inl, refl, image_at, wanted_of, names_for}
 use Rattle.std.proofs.lemmas.Result.{IfOk-weaker}
-use Rattle.sqlite_wal.specs.Files.{image_at}
-use Rattle.store.specs.Entering.{wanted_of, names_for}
 use Rattle.replica.specs.Noted.{IsAsked}
-use Rattle.replica.proofs.Observed.{asked_until}
-use Rattle.replica.proofs.Closed.{followed_into, closes_as, keeps_content, noted_of_files, reached_in_files}
+use Rattle.replica.proofs.ObserverEnds.{asked_until}
+use Rattle.replica.proofs.CaptureFiles.{followed_into, closes_as, keeps_content, noted_of_files, reached_in_files}
 use Rattle.replica.proofs.followed_file.follow_file.Goals as goal
 
 pub returns-clause-follows : goal.returns-clause-follows

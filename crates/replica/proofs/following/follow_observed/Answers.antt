@@ -1,23 +1,13 @@
-use Rattle.std.proofs.Common.{Bool, if◌then◌else◌, length, arith, ◌≡◌, ◌≢◌, ◌++◌, true, Option, None, is_some, unwrap_or, sym, ap, ◌∙◌, subst, refl, rules}
-use Rattle.std.proofs.lemmas.Bool.{false≢true}
-use Rattle.replica.specs.Conn.{reported_as}
+use Rattle.replica.proofs.Names.{Bool, length, arith, ◌≡◌, ◌≢◌, ◌++◌, true, Option, None, is_some, unwrap_or, sym, ap, ◌∙◌, subst, refl, rules, false≢true, reported_as, Ended, Reason, EndOfInput, Memory, WriteFailed, ReadFailed, Until, Session, HaveFailed, database, IsNoStreamFailure, MayEnd, end_of}
+use Rattle.std.proofs.Common.{if◌then◌else◌}
 use Rattle.std.proofs.KnownBytes.{Appends-kept, Keeps-trans}
-use Rattle.replica.specs.declared.end.Ended.{Ended}
-use Rattle.replica.specs.declared.end.Reason.{Reason}
-use Rattle.replica.specs.declared.end.Reason.TheVariants.{EndOfInput, Memory, WriteFailed, ReadFailed, Until}
-use Rattle.replica.specs.declared.session.Session.{Session}
 use Rattle.replica.specs.declared.following.Turn.{Turn}
 use Rattle.replica.specs.declared.following.Turn.TheVariants as turn
-use Rattle.replica.specs.Failing.{HaveFailed}
-use Rattle.store.specs.Store.{database}
-use Rattle.replica.specs.Conn.{IsNoStreamFailure}
-use Rattle.replica.specs.Noted.{MayEnd}
-use Rattle.replica.specs.Standing.{end_of}
 use Rattle.replica.specs.Follow.{Follows, reads_failed, failed_reads_of, failed_writes_of}
-use Rattle.replica.proofs.Observed.{asked, not_of_stream}
-use Rattle.replica.proofs.Failed.{none_failed, failed_later, failed_none, counted_none}
+use Rattle.replica.proofs.ObserverEnds.{asked, not_of_stream}
+use Rattle.replica.proofs.StreamFailures.{none_failed, failed_later, failed_none, counted_none}
 use Rattle.replica.proofs.Advance.{none_after}
-use Rattle.replica.proofs.Followed.{follows-memory, follows-until, follows-sends_no_more, follows-write_failed, follows-ended, follows-read_failed, following-begins, following-sent, following-read, follows-same, some_after, ended_early, over-out, length_kept}
+use Rattle.replica.proofs.FollowEnds.{follows-memory, follows-until, follows-sends_no_more, follows-write_failed, follows-ended, follows-read_failed, following-begins, following-sent, following-read, follows-same, some_after, ended_early, over-out, length_kept}
 use Rattle.replica.proofs.Keeps.{keeps_same, keeps_then}
 use Rattle.replica.proofs.following.follow_observed.Goals as goal
 

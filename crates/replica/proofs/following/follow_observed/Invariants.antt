@@ -1,13 +1,5 @@
-use Rattle.std.proofs.Common.{◌≡◌, Bool, length, []}
-use Rattle.sqlite.specs.State.{HasCleanDisk}
-use Rattle.store.specs.State.{Content}
-use Rattle.store.specs.Store.{HoldsAs, database}
-use Rattle.replica.specs.Conn.{IsNoStreamFailure}
-use Rattle.replica.specs.Standing.{end_of}
-use Rattle.replica.specs.Noted.{MayEnd}
-use Rattle.replica.specs.Failing.{HaveFailed}
+use Rattle.replica.proofs.Names.{◌≡◌, Bool, length, [], HasCleanDisk, Content, HoldsAs, database, IsNoStreamFailure, end_of, MayEnd, HaveFailed, KeepsObserved}
 use Rattle.replica.specs.Follow.{IsFollowing, turns_left}
-use Rattle.replica.specs.Keeps.{KeepsObserved}
 use Rattle.replica.proofs.following.follow_observed.Given as goal
 
 abbrev pub invariant-turns : goal.invariant-turns

@@ -3,7 +3,7 @@ use Rattle.std.proofs.Math.Seq.{take-add}
 use Rattle.std.proofs.lemmas.List.{take-take}
 use Rattle.std.specs.Io.KnownBytes.{Appends}
 use Rattle.std.proofs.KnownBytes.{Appends-trans, Keeps-trans}
-use Rattle.replica.proofs.Failed.{failed_later}
+use Rattle.replica.proofs.StreamFailures.{failed_later}
 use Rattle.replica.proofs.following.send_all.Goals as goal
 
 pub loop-at-preserved : goal.loop-at-preserved

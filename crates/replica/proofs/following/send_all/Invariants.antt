@@ -1,6 +1,4 @@
-use Rattle.std.proofs.Common.{◌≡◌, ◌≤◌, ◌-◌, length, take}
-use Rattle.std.specs.Io.KnownBytes.{Appends, Keeps}
-use Rattle.replica.specs.Failing.{HaveFailed}
+use Rattle.replica.proofs.Names.{◌≡◌, ◌≤◌, ◌-◌, length, take, Appends, Keeps, HaveFailed}
 use Rattle.replica.proofs.following.send_all.Given as goal
 
 abbrev pub invariant-loop-at : goal.invariant-loop-at

@@ -1,7 +1,7 @@
 use Rattle.std.proofs.Common.{◌≡◌, ℕ, List, take, drop, arith, subst, sym, ◌∙◌}
 use Rattle.std.proofs.lemmas.List.{take-append-drop, drop_all}
 use Rattle.replica.specs.Follow.{HandsOut}
-use Rattle.replica.proofs.Followed.{same_turns}
+use Rattle.replica.proofs.FollowEnds.{same_turns}
 use Rattle.replica.proofs.following.send_pending.Goals as goal
 
 pub returns-clause-sent : goal.returns-clause-sent

@@ -1,5 +1,5 @@
 use Rattle.store.specs.Changes.{adopted}
-use Rattle.replica.proofs.Copied.{loaded_rows, loaded_again, followed_after}
+use Rattle.replica.proofs.CopyLoads.{loaded_rows, loaded_again, followed_after}
 use Rattle.replica.proofs.laws.copied.Goals as goal
 
 pub returns-clause-loaded : goal.returns-clause-loaded

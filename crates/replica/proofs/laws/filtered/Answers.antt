@@ -1,4 +1,4 @@
-use Rattle.replica.proofs.Filtered.{all_changes, whole_or_not}
+use Rattle.replica.proofs.FilterSkips.{all_changes, whole_or_not}
 use Rattle.replica.proofs.laws.filtered.Goals as goal
 
 pub returns : goal.returns

@@ -1,4 +1,4 @@
-use Rattle.replica.proofs.RestartedFiles.{unopened_found}
+use Rattle.replica.proofs.RestartFiles.{unopened_found}
 use Rattle.replica.proofs.laws.found_unopened.Goals as goal
 
 pub returns : goal.returns

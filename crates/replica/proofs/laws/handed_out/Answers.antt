@@ -1,4 +1,4 @@
-use Rattle.replica.proofs.Followed.{over-out}
+use Rattle.replica.proofs.FollowEnds.{over-out}
 use Rattle.replica.proofs.laws.handed_out.Goals as goal
 
 pub returns : goal.returns

@@ -1,4 +1,4 @@
-use Rattle.replica.proofs.Noted.{all_applied, one_led}
+use Rattle.replica.proofs.Notices.{all_applied, one_led}
 use Rattle.replica.proofs.laws.led.Goals as goal
 
 pub returns-clause-applied : goal.returns-clause-applied

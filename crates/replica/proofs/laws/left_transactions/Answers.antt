@@ -1,4 +1,4 @@
-use Rattle.replica.proofs.Left as lemma
+use Rattle.replica.proofs.CrashPrefixes as lemma
 use Rattle.replica.proofs.laws.left_transactions.Goals as goal
 
 pub returns : goal.returns

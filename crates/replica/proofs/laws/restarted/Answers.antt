@@ -1,4 +1,4 @@
-use Rattle.replica.proofs.Restarted.{never_falls}
+use Rattle.replica.proofs.Restarts.{never_falls}
 use Rattle.replica.proofs.laws.restarted.Goals as goal
 
 pub returns : goal.returns

@@ -1,4 +1,4 @@
-use Rattle.replica.proofs.RestartedFiles.{files_never_fall, files_hold_all}
+use Rattle.replica.proofs.RestartFiles.{files_never_fall, files_hold_all}
 use Rattle.replica.proofs.laws.restarted_files.Goals as goal
 
 pub returns-clause-never_falls : goal.returns-clause-never_falls

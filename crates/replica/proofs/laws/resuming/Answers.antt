@@ -1,7 +1,6 @@
-use Rattle.std.proofs.Common.{arith}
-use Rattle.std.proofs.lemmas.List.{length-append}
-use Rattle.gtid.proofs.Printed.{all_bytes}
-use Rattle.replica.proofs.Resuming.{leads, cut}
+use Rattle.replica.proofs.Names.{arith, length-append}
+use Rattle.gtid.proofs.AsciiText.{all_bytes}
+use Rattle.replica.proofs.Resumption.{leads, cut}
 use Rattle.replica.proofs.laws.resuming.Goals as goal
 
 pub returns-clause-leads : goal.returns-clause-leads

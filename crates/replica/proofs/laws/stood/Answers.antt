@@ -1,5 +1,5 @@
 use Rattle.replica.specs.Standing.{end_of}
-use Rattle.replica.proofs.Stood as stood
+use Rattle.replica.proofs.Positions as stood
 use Rattle.replica.proofs.Report as reported
 use Rattle.replica.proofs.laws.stood.Goals as goal
 

@@ -1,5 +1,5 @@
 use Rattle.std.proofs.Common.{Some, refl}
-use Rattle.replica.proofs.Missing.{waits_of, all_there, too_few}
+use Rattle.replica.proofs.WaitSets.{waits_of, all_there, too_few}
 use Rattle.replica.proofs.laws.waited.Goals as goal
 
 pub returns-clause-none : goal.returns-clause-none

@@ -1,6 +1,4 @@
-use Rattle.std.proofs.Common.{◌≡◌, inl, inr, Bool, false, true, refl, subst}
-use Rattle.gtid.specs.Identifier.{Ids}
-use Rattle.binlog.specs.Filter.{Names}
+use Rattle.replica.proofs.Names.{◌≡◌, inl, inr, Bool, false, true, refl, subst, Ids, Names}
 use Rattle.replica.proofs.ClearStore.{stays_whole, stays_listed}
 use Rattle.replica.proofs.listed_file.list.Goals as goal
 

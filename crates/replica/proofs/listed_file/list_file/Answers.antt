@@ -1,9 +1,7 @@
-use Rattle.std.proofs.Common.{None, subst}
-use Rattle.sqlite_wal.specs.Files.{image_at}
-use Rattle.store.specs.Entering.{names_for}
+use Rattle.replica.proofs.Names.{None, subst, image_at, names_for}
 use Rattle.replica.specs.ListFile.{IsListed}
-use Rattle.replica.proofs.Closed.{clean_before_closing, closes_as}
-use Rattle.replica.proofs.StayedFiles.{keeps_stayed}
+use Rattle.replica.proofs.CaptureFiles.{clean_before_closing, closes_as}
+use Rattle.replica.proofs.ContentStays.{keeps_stayed}
 use Rattle.replica.proofs.listed_file.list_file.Goals as goal
 
 pub returns-clause-lists : goal.returns-clause-lists

@@ -1,9 +1,6 @@
-use Rattle.std.proofs.Common.{inl, refl}
-use Rattle.sqlite_wal.specs.Files.{image_at}
-use Rattle.gtid.specs.Identifier.{id}
-use Rattle.store.specs.Entering.{wanted_of, names_for}
-use Rattle.replica.proofs.Closed.{closes_as}
-use Rattle.replica.proofs.Loaded.{loaded_into, noted_of_load}
+use Rattle.replica.proofs.Names.{inl, refl, image_at, id, wanted_of, names_for}
+use Rattle.replica.proofs.CaptureFiles.{closes_as}
+use Rattle.replica.proofs.LoadFiles.{loaded_into, noted_of_load}
 use Rattle.replica.proofs.loaded_file.load_file.Goals as goal
 
 pub returns-clause-loads : goal.returns-clause-loads

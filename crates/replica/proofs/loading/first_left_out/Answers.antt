@@ -1,9 +1,6 @@
-use Rattle.std.proofs.Common.{◌≡◌, ◌∙◌, true, take, sym, subst, arith}
-use Rattle.std.specs.List.{AllByRecursion}
+use Rattle.replica.proofs.Names.{◌≡◌, ◌∙◌, true, take, sym, subst, arith, AllByRecursion, Name, admits, name_list}
 use Rattle.std.proofs.lemmas.Grind.{common_steps}
 use Rattle.std.proofs.lemmas.List.{take_all}
-use Rattle.binlog.specs.Filter.{Name, admits}
-use Rattle.binlog.specs.FilterView.{name_list}
 use Rattle.replica.proofs.Copies.{each_named, one_more, one_on, in_set, named_at}
 use Rattle.replica.proofs.loading.first_left_out.Goals as goal
 

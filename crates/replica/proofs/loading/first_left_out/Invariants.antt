@@ -1,7 +1,4 @@
-use Rattle.std.proofs.Common.{◌≡◌, true, take}
-use Rattle.std.specs.List.{AllByRecursion}
-use Rattle.binlog.specs.Filter.{Name, admits}
-use Rattle.binlog.specs.FilterView.{name_list}
+use Rattle.replica.proofs.Names.{◌≡◌, true, take, AllByRecursion, Name, admits, name_list}
 use Rattle.replica.proofs.loading.first_left_out.Given as goal
 
 abbrev pub invariant-loop-name : goal.invariant-loop-name

@@ -1,11 +1,7 @@
-use Rattle.std.proofs.Common.{[], false, subst}
-use Rattle.gtid.specs.Identifier.{Ids, id}
-use Rattle.store.specs.Changes.{adopted}
-use Rattle.replica.specs.Changing.{HasChanged}
-use Rattle.replica.specs.Noted.{IsLedSinceOpening}
+use Rattle.replica.proofs.Names.{[], false, subst, Ids, id, adopted, HasChanged, IsLedSinceOpening}
 use Rattle.replica.specs.Copies.{with_first}
-use Rattle.replica.proofs.Changed.{since_likewise}
-use Rattle.replica.proofs.Loaded.{refused, unadopted}
+use Rattle.replica.proofs.ChangeFiles.{since_likewise}
+use Rattle.replica.proofs.LoadFiles.{refused, unadopted}
 use Rattle.replica.proofs.Keeps.{store_then}
 use Rattle.replica.proofs.loading.load.Goals as goal
 

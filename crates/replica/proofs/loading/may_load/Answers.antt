@@ -1,13 +1,11 @@
-use Rattle.std.proofs.Common.{◌≡◌, ◌∙◌, ℕ, List, inl, inr, true, false, sym, ap, ap₂, subst}
-use Rattle.binlog.specs.Filter.{Names, admits}
+use Rattle.replica.proofs.Names.{◌≡◌, ◌∙◌, ℕ, List, inl, inr, true, false, sym, ap, ap₂, subst, Names, admits, id}
 use Rattle.std.specs.FinSet as set
-use Rattle.gtid.specs.Identifier.{id}
 use Rattle.replica.specs.Copies.{IsAtSet, AreAdmitted}
 use Rattle.replica.specs.declared.loading.NoRows.{NoRows}
 use Rattle.replica.specs.declared.loading.Unloadable.TheVariants.{OtherSet, LeftOut, HasRows, Failed}
 use Rattle.store.specs.declared.fault.StoreFault.TheVariants as fault
 use Rattle.replica.proofs.Copies.{no_rows, found_row}
-use Rattle.replica.proofs.Loaded.{keeps_of, kept_after, held_after, may_not}
+use Rattle.replica.proofs.LoadFiles.{keeps_of, kept_after, held_after, may_not}
 use Rattle.replica.proofs.loading.may_load.Goals as goal
 
 pub returns-then-contains-clause-judges : goal.returns-then-contains-clause-judges

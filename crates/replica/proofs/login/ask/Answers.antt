@@ -1,7 +1,6 @@
-use Rattle.replica.specs.Conn.{IsDumpTooLong}
-use Rattle.replica.specs.PayloadStep.{Sends, SendsDump}
-use Rattle.std.proofs.Common.{◌∙◌}
-use Rattle.replica.proofs.Sending.{on_ok, asks_for, short_enough}
+use Rattle.replica.proofs.Names.{IsDumpTooLong, Sends, ◌∙◌}
+use Rattle.replica.specs.PayloadStep.{SendsDump}
+use Rattle.replica.proofs.SentBytes.{on_ok, asks_for, short_enough}
 use Rattle.replica.proofs.login.ask.Goals as goal
 
 pub returns-clause-ok : goal.returns-clause-ok

@@ -1,7 +1,6 @@
-use Rattle.std.proofs.Common.{◌∙◌, ◌++◌, ap, List, ℕ}
+use Rattle.replica.proofs.Names.{◌∙◌, ◌++◌, ap, List, ℕ, Sends}
 use Rattle.greet.specs.Message.{checksum_query}
-use Rattle.replica.specs.PayloadStep.{Sends}
-use Rattle.replica.proofs.Sending.{on_ok, sends_other}
+use Rattle.replica.proofs.SentBytes.{on_ok, sends_other}
 use Rattle.replica.proofs.login.turn_checksums_off.Goals as goal
 
 pub returns-in-Ok-clause-ok : goal.returns-in-Ok-clause-ok

@@ -1,6 +1,4 @@
-use Rattle.std.proofs.Common.{sym, ap}
-use Rattle.replica.specs.Stream.{Hello, Reply, SecondReply, QueryReply}
-use Rattle.replica.specs.Standing.{due_at}
+use Rattle.replica.proofs.Names.{sym, ap, Hello, Reply, SecondReply, QueryReply, due_at}
 use Rattle.replica.proofs.Messages.{ends_in}
 use Rattle.replica.proofs.message.answer.Goals as goal
 

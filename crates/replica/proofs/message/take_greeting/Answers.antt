@@ -1,5 +1,4 @@
-use Rattle.replica.specs.Stream.{Hello}
-use Rattle.replica.specs.Message.{refusal_of}
+use Rattle.replica.proofs.Names.{Hello, refusal_of}
 use Rattle.replica.proofs.Messages.{message_ends}
 use Rattle.replica.proofs.message.take_greeting.Goals as goal
 

@@ -1,5 +1,4 @@
-use Rattle.replica.specs.Stream.{QueryReply}
-use Rattle.replica.specs.Message.{refusal_of}
+use Rattle.replica.proofs.Names.{QueryReply, refusal_of}
 use Rattle.replica.proofs.Messages.{message_ends}
 use Rattle.replica.proofs.message.take_query_reply.Goals as goal
 

@@ -1,6 +1,4 @@
-use Rattle.std.proofs.Common.{ap, Ok}
-use Rattle.replica.specs.Stream.{Reply}
-use Rattle.replica.specs.Message.{refusal_of}
+use Rattle.replica.proofs.Names.{ap, Ok, Reply, refusal_of}
 use Rattle.replica.proofs.Messages.{message_ends, answered_again, switch_due}
 use Rattle.replica.proofs.message.take_reply.Goals as goal
 

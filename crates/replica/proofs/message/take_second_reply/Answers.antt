@@ -1,5 +1,4 @@
-use Rattle.replica.specs.Stream.{SecondReply}
-use Rattle.replica.specs.Message.{refusal_of}
+use Rattle.replica.proofs.Names.{SecondReply, refusal_of}
 use Rattle.replica.proofs.Messages.{message_ends}
 use Rattle.replica.proofs.message.take_second_reply.Goals as goal
 

@@ -1,13 +1,7 @@
-use Rattle.std.proofs.Common.{rules, length, inl, ◌≡◌, ◌++◌, ◌∙◌, ℕ, List, [], take, refl, sym, ap, subst, append-nil}
-use Rattle.std.proofs.KnownBytes.{Consumes-nil, Keeps-refl}
-use Rattle.std.specs.Io.KnownBytes.{Consumes}
+use Rattle.replica.proofs.Names.{rules, length, inl, ◌≡◌, ◌++◌, ◌∙◌, ℕ, List, [], take, refl, sym, ap, subst, append-nil, Consumes-nil, Consumes, EndOfInput, Ended, end_of, StandsOver, MayEnd}
+use Rattle.std.proofs.KnownBytes.{Keeps-refl}
 use Rattle.sqlite.specs.Held.{state}
-use Rattle.replica.specs.declared.end.Reason.TheVariants.{EndOfInput}
-use Rattle.replica.specs.declared.end.Ended.{Ended}
-use Rattle.replica.specs.Standing.{end_of}
-use Rattle.replica.specs.Over.{StandsOver}
-use Rattle.replica.specs.Noted.{MayEnd}
-use Rattle.replica.proofs.Observed.{may_later}
+use Rattle.replica.proofs.ObserverEnds.{may_later}
 use Rattle.replica.proofs.Advance.{none_after}
 use Rattle.replica.proofs.Runs.{begins}
 use Rattle.replica.proofs.FromReader.{taking_more, taken, no_end, is_ended, not_ended, going_on, Keeps-from_none}

@@ -1,8 +1,5 @@
-use Rattle.std.proofs.Common.{◌<◌, length, []}
-use Rattle.replica.specs.Noted.{MayEnd}
-use Rattle.replica.specs.Standing.{end_of}
+use Rattle.replica.proofs.Names.{◌<◌, length, [], MayEnd, end_of, KeepsObserved}
 use Rattle.replica.proofs.FromReader.{IsTaking, turns_left}
-use Rattle.replica.specs.Keeps.{KeepsObserved}
 use Rattle.replica.proofs.reader.read_stream.Given as goal
 
 abbrev pub invariant-loop-reader : goal.invariant-loop-reader

@@ -1,13 +1,8 @@
-use Rattle.std.proofs.Common.{◌≡◌, false, inl, refl}
+use Rattle.replica.proofs.Names.{◌≡◌, false, inl, refl, image_at, wanted_of, names_for, Ended, Until, MayEnd}
 use Rattle.std.proofs.lemmas.List.Elements.{All-weaker}
-use Rattle.sqlite_wal.specs.Files.{image_at}
-use Rattle.store.specs.Entering.{wanted_of, names_for}
-use Rattle.replica.specs.declared.end.Ended.{Ended}
-use Rattle.replica.specs.declared.end.Reason.TheVariants.{Until}
-use Rattle.replica.specs.Noted.{MayEnd}
 use Rattle.replica.specs.NotedFile.{HaveReached}
-use Rattle.replica.proofs.Observed.{may_until}
-use Rattle.replica.proofs.Closed.{replayed, closes_as, keeps_content, noted_of_files, reached_in_files}
+use Rattle.replica.proofs.ObserverEnds.{may_until}
+use Rattle.replica.proofs.CaptureFiles.{replayed, closes_as, keeps_content, noted_of_files, reached_in_files}
 use Rattle.replica.proofs.replaying.replay.Goals as goal
 
 pub returns-clause-replays : goal.returns-clause-replays

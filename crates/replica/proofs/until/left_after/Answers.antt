@@ -1,11 +1,7 @@
-use Rattle.std.proofs.Common.{◌≡◌, ◌∷◌, [], Bool, true, false, Option, Some, Result, Ok, ap, sym, subst, subst₂, ◌∙◌, rules}
+use Rattle.replica.proofs.Names.{◌≡◌, ◌∷◌, [], Bool, true, false, Option, Some, Result, Ok, ap, sym, subst, subst₂, ◌∙◌, rules, Ids, delivery_value, Reason, StillWaits, waits_for_none}
 use Rattle.std.specs.FinSet as set
-use Rattle.gtid.specs.Identifier.{Ids}
-use Rattle.gather.specs.View.{delivery_value}
-use Rattle.replica.specs.declared.end.Reason.{Reason}
-use Rattle.replica.specs.Noted.{StillWaits, after}
-use Rattle.replica.specs.Missing.{waits_for_none}
-use Rattle.replica.proofs.Missing.{left_one, left_absent}
+use Rattle.replica.specs.Noted.{after}
+use Rattle.replica.proofs.WaitSets.{left_one, left_absent}
 use Rattle.replica.proofs.MissingSets.{some_with}
 use Rattle.replica.proofs.until.left_after.Goals as goal
 

@@ -1,7 +1,4 @@
-use Rattle.std.proofs.Common.{◌≡◌, false, Option, inl, sym, subst}
-use Rattle.std.proofs.lemmas.Bool.{false≢true}
-use Rattle.gtid.specs.Identifier.{Ids}
-use Rattle.replica.specs.Missing.{waits_for_none}
+use Rattle.replica.proofs.Names.{◌≡◌, false, Option, inl, sym, subst, false≢true, Ids, waits_for_none}
 use Rattle.replica.proofs.MissingSets.{some_of}
 use Rattle.replica.proofs.until.without.Goals as goal
 

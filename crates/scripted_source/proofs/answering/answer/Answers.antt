@@ -1,8 +1,6 @@
-use Rattle.std.proofs.Common.{[], subst, ℕ, List, ◌∷◌}
-use Rattle.std.proofs.lemmas.Result.{err_from_is_err_and}
-use Rattle.binlog.proofs.Written.{writes_format}
+use Rattle.scripted_source.proofs.Names.{[], subst, ℕ, List, ◌∷◌, err_from_is_err_and, script_values}
+use Rattle.binlog.proofs.EventBytes.{writes_format}
 use Rattle.binlog.specs.Event.{format}
-use Rattle.scripted_source.specs.Script.{script_values}
 use Rattle.scripted_source.specs.Source.{AppendsPackings, payloads_of}
 use Rattle.scripted_source.proofs.Packings.{answered, request_refused, script_refused}
 use Rattle.scripted_source.proofs.answering.answer.Goals as goal

@@ -1,7 +1,4 @@
-use Rattle.std.proofs.Common.{ap, sym, subst}
-use Rattle.std.proofs.lemmas.Result.{err_from_is_err_and}
-use Rattle.greet.specs.Message.{DumpValue}
-use Rattle.gtid.specs.Encoding.{IsEncoding}
+use Rattle.scripted_source.proofs.Names.{ap, sym, subst, err_from_is_err_and, DumpValue, IsEncoding}
 use Rattle.scripted_source.proofs.answering.read_request.Goals as goal
 
 pub returns-in-Err-clause-only : goal.returns-in-Err-clause-only

@@ -1,6 +1,5 @@
-use Rattle.std.proofs.Common.{◌≡◌, ◌∙◌, length, ap, sym, subst, arith}
+use Rattle.scripted_source.proofs.Names.{◌≡◌, ◌∙◌, length, ap, sym, subst, arith, IsEncoding}
 use Rattle.std.proofs.Math.Seq.{take-length}
-use Rattle.gtid.specs.Encoding.{IsEncoding}
 use Rattle.scripted_source.specs.Source.{set_fault}
 use Rattle.scripted_source.proofs.answering.read_set.Goals as goal
 

@@ -1,6 +1,4 @@
-use Rattle.std.proofs.Common.{sym, ◌∙◌}
-use Rattle.std.proofs.lemmas.Result.{IfOk-from_err, err_from_is_err_and}
-use Rattle.scripted_source.specs.Script.{script_values}
+use Rattle.scripted_source.proofs.Names.{sym, ◌∙◌, IfOk-from_err, err_from_is_err_and, script_values}
 use Rattle.scripted_source.proofs.Packings.{going_begins, going_past, going_on, going_fault, going_ends}
 use Rattle.scripted_source.proofs.answering.send_due.Goals as goal
 

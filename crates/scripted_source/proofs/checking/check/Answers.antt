@@ -1,5 +1,4 @@
-use Rattle.std.proofs.Common.{◌∙◌, sym, subst}
-use Rattle.std.proofs.lemmas.Result.{err_from_is_err_and}
+use Rattle.scripted_source.proofs.Names.{◌∙◌, sym, subst, err_from_is_err_and}
 use Rattle.greet.specs.Complete.{HasResponse}
 use Rattle.scripted_source.proofs.checking.check.Goals as goal
 

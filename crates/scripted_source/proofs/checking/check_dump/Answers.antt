@@ -1,7 +1,6 @@
-use Rattle.std.proofs.Common.{◌≡◌, ℕ, ◌≤◌, [], ◌∙◌, length, ap, sym, subst, arith}
-use Rattle.std.proofs.lemmas.Result.{err_from_is_err_and}
+use Rattle.scripted_source.proofs.Names.{◌≡◌, ℕ, [], ◌∙◌, length, ap, sym, subst, arith, err_from_is_err_and, Asks, TakesPayload}
+use Rattle.std.proofs.Common.{◌≤◌}
 use Rattle.std.proofs.lemmas.List.{nil_from_length}
-use Rattle.scripted_source.specs.Source.{Asks, TakesPayload}
 use Rattle.scripted_source.proofs.checking.check_dump.Goals as goal
 
 none_left : (n : ℕ) → n ≤ 0 → n ≡ 0

@@ -1,6 +1,5 @@
-use Rattle.std.proofs.Common.{arith}
-use Rattle.binlog.proofs.Written.{writes_gtid, writes_begin}
-use Rattle.binlog.proofs.Kept.{on_ok}
+use Rattle.scripted_source.proofs.Names.{arith, on_ok}
+use Rattle.binlog.proofs.EventBytes.{writes_gtid, writes_begin}
 use Rattle.scripted_source.proofs.Packings.{if_appends}
 use Rattle.scripted_source.proofs.sending.announce.Goals as goal
 

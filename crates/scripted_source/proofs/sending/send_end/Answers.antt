@@ -1,7 +1,5 @@
-use Rattle.std.proofs.Common.{subst, sym, arith}
-use Rattle.binlog.specs.Writing.{IsWritable}
-use Rattle.binlog.proofs.Written.{writes_xid, writes_commit}
-use Rattle.binlog.proofs.Kept.{on_ok}
+use Rattle.scripted_source.proofs.Names.{subst, sym, arith, IsWritable, on_ok}
+use Rattle.binlog.proofs.EventBytes.{writes_xid, writes_commit}
 use Rattle.scripted_source.specs.Script.{end_event}
 use Rattle.scripted_source.proofs.sending.send_end.Goals as goal
 

@@ -1,7 +1,4 @@
-use Rattle.std.proofs.Common.{refl, inl}
-use Rattle.std.proofs.lemmas.Bool.{false≢true}
-use Rattle.std.proofs.lemmas.Result.{IfOk-from_err, err_from_is_err_and}
-use Rattle.scripted_source.specs.Script.{part_value}
+use Rattle.scripted_source.proofs.Names.{refl, inl, false≢true, IfOk-from_err, err_from_is_err_and, part_value}
 use Rattle.scripted_source.proofs.Packings.{if_appends, map_fault, if_rows_fault, can_send}
 use Rattle.scripted_source.proofs.sending.send_part.Goals as goal
 

@@ -1,5 +1,4 @@
-use Rattle.std.proofs.lemmas.Result.{err_from_is_err_and}
-use Rattle.scripted_source.specs.Script.{part_values}
+use Rattle.scripted_source.proofs.Names.{err_from_is_err_and, part_values}
 use Rattle.scripted_source.proofs.Packings.{sending_begins, sending_more, sending_fault, sending_ends}
 use Rattle.scripted_source.proofs.sending.send_parts.Goals as goal
 

@@ -1,12 +1,9 @@
-use Rattle.std.proofs.Common.{◌∙◌, ◌≡◌, refl, sym, inl, subst, length}
+use Rattle.scripted_source.proofs.Names.{◌∙◌, ◌≡◌, refl, sym, inl, subst, length, IfOk-from_err, IsWritable, on_ok, part_value}
 use Rattle.std.proofs.lemmas.List.{length-map}
-use Rattle.std.proofs.lemmas.Result.{IfOk-from_err}
 use Rattle.binlog.specs.Row.{kinds}
 use Rattle.binlog.specs.RowsView.{rows_value}
 use Rattle.binlog.specs.Event.{rows}
-use Rattle.binlog.specs.Writing.{IsWritable}
-use Rattle.binlog.proofs.Kept.{on_ok}
-use Rattle.scripted_source.specs.Script.{part_value, rows_of}
+use Rattle.scripted_source.specs.Script.{rows_of}
 use Rattle.scripted_source.proofs.Packings.{too_long, no_rows, memory_failed, rows_are, RowsSent, rows_sent}
 use Rattle.scripted_source.proofs.sending.send_rows.Goals as goal
 

@@ -1,16 +1,8 @@
-use Rattle.std.proofs.Common.{◌≡◌, true, refl, subst, rules, arith}
-use Rattle.sqlite.specs.State.{HasCleanDisk, KeepsCommit, Survives}
+use Rattle.store.proofs.Names.{◌≡◌, true, refl, subst, rules, arith, HasCleanDisk, KeepsCommit, Survives, survives_begin, survives_then, Trees, Names, Content, with_executed, Records, AreOf, IsAtRest, Rests, SparesBeside}
 use Rattle.sqlite.specs.Held.{state}
-use Rattle.sqlite.proofs.Callers.{survives_begin}
-use Rattle.sqlite.proofs.StateLemmas.{survives_then}
-use Rattle.sqlite_trees.specs.Tree.{Trees}
-use Rattle.binlog.specs.Filter.{Names}
-use Rattle.store.specs.State.{Content}
-use Rattle.store.specs.Changes.{with_executed}
-use Rattle.store.specs.Inside.{Records}
-use Rattle.store.specs.Apply.{AreOf, IsAtRest, Rests, Replaces, SparesBeside}
+use Rattle.store.specs.Apply.{Replaces}
 use Rattle.store.proofs.Ran.{begun_working, rolled, survives_rolled}
-use Rattle.store.proofs.Replaced.{stored_of, replaced, may_replace}
+use Rattle.store.proofs.NewExecutedSet.{stored_of, replaced, may_replace}
 use Rattle.store.proofs.adopt.replace.Goals as goal
 
 pub returns-in_err-replace_all : goal.returns-in_err-replace_all

@@ -1,12 +1,7 @@
-use Rattle.std.proofs.Common.{◌≡◌, Ok, Err, ap, sym, ◌∙◌, rules, arith}
-use Rattle.std.proofs.lemmas.Bool.{false≢true}
-use Rattle.sqlite.specs.State.{HasCleanDisk}
+use Rattle.store.proofs.Names.{◌≡◌, Ok, Err, ap, sym, ◌∙◌, rules, arith, false≢true, HasCleanDisk, delivery_value, Content, IsAtRest, IsNew}
 use Rattle.sqlite.specs.Held.{state}
-use Rattle.gather.specs.View.{delivery_value}
 use Rattle.gather.proofs.RowItems.{ok_not_err}
-use Rattle.store.specs.State.{Content}
-use Rattle.store.specs.Apply.{IsAtRest, IsNew}
-use Rattle.store.proofs.Applying.{is_new, moved, came, given_up, fault_in, shut_after, refused_shut}
+use Rattle.store.proofs.ExecutedInMemory.{is_new, moved, came, given_up, fault_in, shut_after, refused_shut}
 use Rattle.store.proofs.Lives.{over_any, any_then}
 use Rattle.store.proofs.apply.apply_new.Goals as goal
 

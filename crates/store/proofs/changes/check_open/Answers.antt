@@ -1,6 +1,6 @@
 use Rattle.std.proofs.Common.{[]}
 use Rattle.sqlite.specs.Held.{state}
-use Rattle.store.proofs.Counted.{rests_not_run}
+use Rattle.store.proofs.PlainQueries.{rests_not_run}
 use Rattle.store.proofs.Keeps.{kept_not_run}
 use Rattle.store.proofs.changes.check_open.Goals as goal
 

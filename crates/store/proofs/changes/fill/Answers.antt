@@ -1,9 +1,7 @@
-use Rattle.std.proofs.Common.{None, Some, is_none, arith}
-use Rattle.sqlite.specs.State.{HasCleanDisk}
+use Rattle.store.proofs.Names.{None, Some, is_none, arith, HasCleanDisk, delivery_value}
 use Rattle.sqlite.specs.Held.{state}
-use Rattle.gather.specs.View.{delivery_value}
 use Rattle.store.specs.Inside.{DoesIn}
-use Rattle.store.proofs.Filled.{shows_mid, filled, refused_in}
+use Rattle.store.proofs.TransactionEnd.{shows_mid, filled, refused_in}
 use Rattle.store.proofs.changes.fill.Goals as goal
 
 pub returns-clause-fills : goal.returns-clause-fills

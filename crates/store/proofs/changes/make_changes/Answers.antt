@@ -1,6 +1,5 @@
-use Rattle.std.proofs.Common.{IsTrue, rules}
+use Rattle.store.proofs.Names.{IsTrue, rules, Adds}
 use Rattle.sqlite.specs.Held.{state}
-use Rattle.store.specs.Inside.{Adds}
 use Rattle.store.specs.AnyOrder.{AreInserts, keys_in}
 use Rattle.store.proofs.AnyOrder.{some_images, inserts_done}
 use Rattle.store.proofs.changes.make_changes.Goals as goal

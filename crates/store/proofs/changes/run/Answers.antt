@@ -1,13 +1,7 @@
-use Rattle.std.proofs.Common.{◌≡◌, true, false, is_none, rules, arith}
-use Rattle.sqlite.specs.State.{HasCleanDisk}
-use Rattle.sqlite.specs.declared.error.Error.{Error}
+use Rattle.store.proofs.Names.{◌≡◌, true, false, is_none, rules, arith, HasCleanDisk, Error, survives_then, survives_weaker, delivery_value, Content, IsAtRest, IsNew, MayCommit}
 use Rattle.sqlite.specs.Held.{state}
-use Rattle.sqlite.proofs.StateLemmas.{survives_then, survives_weaker}
-use Rattle.gather.specs.View.{delivery_value}
-use Rattle.store.specs.State.{Content}
-use Rattle.store.specs.Apply.{IsAtRest, IsNew, MayCommit}
 use Rattle.store.proofs.Ran.{runs_err, may_commit_err}
-use Rattle.store.proofs.Tried.{IsStill, committed, may_be_committed, rolled_back, commits_none, still, runs_then, crash_then, rests_after}
+use Rattle.store.proofs.TransactionTrial.{IsStill, committed, may_be_committed, rolled_back, commits_none, still, runs_then, crash_then, rests_after}
 use Rattle.store.proofs.changes.run.Goals as goal
 
 pub returns-in_err-run_once : goal.returns-in_err-run_once

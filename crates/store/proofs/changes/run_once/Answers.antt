@@ -1,11 +1,6 @@
-use Rattle.std.proofs.Common.{refl, ◌≡◌, true, Some, None, Ok, is_none, subst, rules, arith}
-use Rattle.sqlite.specs.State.{HasCleanDisk, Survives}
-use Rattle.sqlite.specs.declared.error.Error.{Error}
+use Rattle.store.proofs.Names.{refl, ◌≡◌, true, Some, None, Ok, is_none, subst, rules, arith, HasCleanDisk, Survives, Error, survives_weaker, delivery_value, Content, IsAtRest, IsNew, RunsTransaction, MayCommit}
 use Rattle.sqlite.specs.Held.{state}
-use Rattle.sqlite.proofs.StateLemmas.{survives_weaker}
-use Rattle.gather.specs.View.{delivery_value}
-use Rattle.store.specs.State.{Content}
-use Rattle.store.specs.Apply.{IsAtRest, IsNew, IsRefusedIn, Fills, RunsTransaction, MayCommit}
+use Rattle.store.specs.Apply.{IsRefusedIn, Fills}
 use Rattle.store.proofs.Ran.{begun_working, rolled, runs_err, may_commit_err, taken, untaken, may_take}
 use Rattle.store.proofs.changes.run_once.Goals as goal
 

@@ -1,7 +1,6 @@
-use Rattle.std.proofs.Common.{◌≡◌, ◌++◌, [], ◌∷◌, map, subst, sym, ap, ◌∙◌}
-use Rattle.std.proofs.lemmas.List.{map-append}
+use Rattle.store.proofs.Names.{◌≡◌, ◌++◌, [], ◌∷◌, map, subst, sym, ap, ◌∙◌, map-append, AddsRows}
 use Rattle.gather.specs.View.{change_value}
-use Rattle.store.specs.AnyOrder.{AddsRow, AddsRows}
+use Rattle.store.specs.AnyOrder.{AddsRow}
 use Rattle.store.proofs.AnyOrder.{row_more}
 use Rattle.store.proofs.inserts.images_of.Goals as goal
 

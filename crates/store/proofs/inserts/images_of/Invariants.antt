@@ -1,5 +1,4 @@
-use Rattle.std.proofs.Common.{map}
-use Rattle.store.specs.AnyOrder.{AddsRows}
+use Rattle.store.proofs.Names.{map, AddsRows}
 use Rattle.store.proofs.inserts.images_of.Given as goal
 
 abbrev pub invariant-loop-change : goal.invariant-loop-change

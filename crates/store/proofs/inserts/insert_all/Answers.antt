@@ -1,14 +1,13 @@
-use Rattle.std.proofs.Common.{ℕ, List, Bor, [], subst, append-nil, ◌≡◌, ◌++◌, ◌+◌, take, drop, length, ◌-◌, sym, ap, ap₂, ◌∙◌, append_assoc, length-append, rules, arith}
+use Rattle.store.proofs.Names.{ℕ, List, Bor, [], subst, append-nil, ◌≡◌, ◌++◌, ◌+◌, take, length, ◌-◌, sym, ap, ap₂, ◌∙◌, append_assoc, rules, arith, HasCleanDisk, IsUnchanged, IsSomeImage}
+use Rattle.std.proofs.Common.{drop, length-append}
 use Rattle.std.proofs.Math.Seq.{drop-append_seam}
 use Rattle.std.proofs.lemmas.List.{take_all}
 use Rattle.std.specs.List.{All}
 use Rattle.std.specs.Slice.Iter.{chunks_rest}
-use Rattle.sqlite.specs.State.{HasCleanDisk, IsUnchanged}
 use Rattle.sqlite.specs.Held.{state}
-use Rattle.gather.specs.Image.{IsSomeImage}
 use Rattle.store.specs.Rows.{key_of}
 use Rattle.store.proofs.Keeps.{stays_then, stays_ok, stays_err}
-use Rattle.store.proofs.Made.{working_same, adds_new}
+use Rattle.store.proofs.BetweenCalls.{working_same, adds_new}
 use Rattle.store.proofs.AnyOrder.{adds_both, adds_rest, keys_stored, part_stored}
 use Rattle.store.proofs.inserts.insert_all.Goals as goal
 

@@ -1,9 +1,7 @@
-use Rattle.std.proofs.Common.{◌≡◌, ℕ, List, ◌++◌, Bor, map, length}
+use Rattle.store.proofs.Names.{◌≡◌, ℕ, List, ◌++◌, Bor, map, length, HasCleanDisk, IsWorking, Adds}
 use Rattle.std.specs.Slice.Iter.{chunks_rest}
-use Rattle.sqlite.specs.State.{HasCleanDisk}
 use Rattle.sqlite.specs.Held.{state}
 use Rattle.store.specs.Rows.{key_of}
-use Rattle.store.specs.Inside.{IsWorking, Adds}
 use Rattle.store.proofs.Keeps.{HaveStayed}
 use Rattle.store.proofs.inserts.insert_all.Given as goal
 

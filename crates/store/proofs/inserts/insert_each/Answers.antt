@@ -1,5 +1,4 @@
-use Rattle.std.proofs.Common.{◌<◌, length, arith}
-use Rattle.sqlite.specs.State.{HasCleanDisk}
+use Rattle.store.proofs.Names.{◌<◌, length, arith, HasCleanDisk}
 use Rattle.sqlite.specs.Held.{state}
 use Rattle.store.specs.Rows.{key_of}
 use Rattle.store.proofs.Keeps.{stays_then, stays_ok}

@@ -1,8 +1,6 @@
-use Rattle.std.proofs.Common.{map, take}
-use Rattle.sqlite.specs.State.{HasCleanDisk}
+use Rattle.store.proofs.Names.{map, take, HasCleanDisk, IsWorking, Adds}
 use Rattle.sqlite.specs.Held.{state}
 use Rattle.store.specs.Rows.{key_of}
-use Rattle.store.specs.Inside.{IsWorking, Adds}
 use Rattle.store.proofs.Keeps.{HaveStayed}
 use Rattle.store.proofs.inserts.insert_each.Given as goal
 

@@ -1,5 +1,4 @@
-use Rattle.std.proofs.Common.{map, rules}
-use Rattle.std.proofs.lemmas.List.Sorted.{IsPermutation-map}
+use Rattle.store.proofs.Names.{map, rules, IsPermutation-map}
 use Rattle.store.proofs.inserts.sorted_inserts.Goals as goal
 
 pub returns : goal.returns

@@ -1,5 +1,5 @@
 use Rattle.sqlite.specs.Held.{state}
-use Rattle.store.proofs.Reopened.{left_ready}
+use Rattle.store.proofs.CrashOpenings.{left_ready}
 use Rattle.store.proofs.laws.left_is_ready.Goals as goal
 
 pub returns : goal.returns

@@ -1,4 +1,4 @@
-use Rattle.store.proofs.Reopened.{left_by}
+use Rattle.store.proofs.CrashOpenings.{left_by}
 use Rattle.store.proofs.laws.left_of_a_content.Goals as goal
 
 pub returns : goal.returns

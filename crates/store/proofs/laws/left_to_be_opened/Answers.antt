@@ -1,4 +1,4 @@
-use Rattle.store.proofs.Reopened.{left_by}
+use Rattle.store.proofs.CrashOpenings.{left_by}
 use Rattle.store.proofs.laws.left_to_be_opened.Goals as goal
 
 pub returns : goal.returns

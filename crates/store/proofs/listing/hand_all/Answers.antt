@@ -1,11 +1,8 @@
-use Rattle.std.proofs.Common.{inr, refl, sym, subst, rules}
-use Rattle.std.proofs.lemmas.Result.{err_from_is_err_and}
+use Rattle.store.proofs.Names.{inr, refl, sym, subst, rules, err_from_is_err_and, Advances, unchanged_then}
 use Rattle.sqlite.specs.Held.{state}
-use Rattle.sqlite.specs.Given.{Advances}
-use Rattle.sqlite.proofs.Callers.{unchanged_then}
 use Rattle.store.proofs.Steps.{clean_before, rested_unchanged}
 use Rattle.store.proofs.Verdicts.{survives_self}
-use Rattle.store.proofs.Handing.{listing_none, left_accepted, left_rested, all_accepted, next_accepted, stopped}
+use Rattle.store.proofs.RowVisits.{listing_none, left_accepted, left_rested, all_accepted, next_accepted, stopped}
 use Rattle.store.proofs.listing.hand_all.Goals as goal
 
 pub rows-init : goal.rows-init

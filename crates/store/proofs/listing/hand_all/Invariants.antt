@@ -1,12 +1,8 @@
-use Rattle.std.proofs.Common.{[]}
-use Rattle.sqlite.specs.State.{HasCleanDisk}
+use Rattle.store.proofs.Names.{[], HasCleanDisk, Names, Content, IsAtRest, listed_text}
 use Rattle.sqlite.specs.Held.{state}
 use Rattle.sqlite.specs.Given.{HasGiven}
-use Rattle.binlog.specs.Filter.{Names}
-use Rattle.store.specs.State.{Content}
-use Rattle.store.specs.Apply.{IsAtRest}
 use Rattle.store.specs.Load.{ReadsOn}
-use Rattle.store.specs.Listing.{IsListing, listed_text}
+use Rattle.store.specs.Listing.{IsListing}
 use Rattle.store.proofs.listing.hand_all.Given as goal
 
 abbrev pub invariant-rows : goal.invariant-rows

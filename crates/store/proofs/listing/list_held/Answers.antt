@@ -1,18 +1,13 @@
-use Rattle.std.proofs.Common.{◌≡◌, ◌∙◌, List, [], inl, refl, sym, subst, Err, rules}
-use Rattle.std.proofs.lemmas.Bool.{false≢true}
-use Rattle.sqlite_value.specs.Order.{Row}
+use Rattle.store.proofs.Names.{◌≡◌, ◌∙◌, List, [], inl, refl, sym, subst, Err, rules, false≢true, Row, survives_then, HasCleanDisk, Survives, held_tree, listed_text}
 use Rattle.sqlite.proofs.Callers.{begun_plain}
-use Rattle.sqlite.proofs.StateLemmas.{survives_then}
-use Rattle.sqlite.specs.State.{HasCleanDisk, Survives}
 use Rattle.sqlite.specs.Held.{state}
-use Rattle.store.specs.Layout.{held_tree}
-use Rattle.store.specs.Listing.{KeepsListed, listed_text}
-use Rattle.store.proofs.Applying.{shut_after}
+use Rattle.store.specs.Listing.{KeepsListed}
+use Rattle.store.proofs.ExecutedInMemory.{shut_after}
 use Rattle.store.proofs.Keeps.{opened_query}
 use Rattle.store.proofs.Readings.{all_rests, all_survives}
 use Rattle.store.proofs.Steps.{clean_before}
-use Rattle.store.proofs.Counted.{rest_unchanged}
-use Rattle.store.proofs.Handing.{kept_after, begun_open}
+use Rattle.store.proofs.PlainQueries.{rest_unchanged}
+use Rattle.store.proofs.RowVisits.{kept_after, begun_open}
 use Rattle.store.proofs.Listings.{listed_asks, listed_survives}
 use Rattle.store.proofs.listing.list_held.Goals as goal
 

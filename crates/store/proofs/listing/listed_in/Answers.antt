@@ -1,5 +1,4 @@
-use Rattle.std.proofs.Common.{refl}
-use Rattle.store.specs.Rows.{key_in}
+use Rattle.store.proofs.Names.{refl, key_in}
 use Rattle.store.proofs.Listings.{none_shown, given_entry}
 use Rattle.store.proofs.listing.listed_in.Goals as goal
 

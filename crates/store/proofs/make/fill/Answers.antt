@@ -1,7 +1,6 @@
-use Rattle.std.proofs.Common.{arith}
-use Rattle.sqlite.specs.State.{HasCleanDisk}
+use Rattle.store.proofs.Names.{arith, HasCleanDisk}
 use Rattle.sqlite.specs.Held.{state}
-use Rattle.store.proofs.Filling.{made_of}
+use Rattle.store.proofs.NewTables.{made_of}
 use Rattle.store.proofs.make.fill.Goals as goal
 
 pub returns-clause-made : goal.returns-clause-made

@@ -1,13 +1,8 @@
-use Rattle.std.proofs.Common.{refl, ◌≡◌, subst, true, OnOk, OnErr, rules}
-use Rattle.sqlite.specs.State.{HasCleanDisk, Survives}
+use Rattle.store.proofs.Names.{refl, ◌≡◌, subst, true, OnOk, OnErr, rules, HasCleanDisk, Survives, survives_begin, survives_then, LiesBeside, IsAtRest, Rests, MayStandFor}
 use Rattle.sqlite.specs.Held.{state}
-use Rattle.sqlite.proofs.Callers.{survives_begin}
-use Rattle.sqlite.proofs.StateLemmas.{survives_then}
-use Rattle.store.specs.Beside.{LiesBeside}
-use Rattle.store.specs.Apply.{IsAtRest, Rests}
-use Rattle.store.specs.Open.{nothing, MayStandFor}
+use Rattle.store.specs.Open.{nothing}
 use Rattle.store.proofs.Ran.{rolled, survives_rolled}
-use Rattle.store.proofs.Committed.{making_inside, committed, failed, may_stand}
+use Rattle.store.proofs.CreationCommit.{making_inside, committed, failed, may_stand}
 use Rattle.store.proofs.make.make.Goals as goal
 
 pub returns-in_err-fill-clause-refused : goal.returns-in_err-fill-clause-refused

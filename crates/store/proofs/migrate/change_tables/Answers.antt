@@ -1,5 +1,4 @@
-use Rattle.std.proofs.Common.{arith}
-use Rattle.sqlite.specs.State.{HasCleanDisk}
+use Rattle.store.proofs.Names.{arith, HasCleanDisk}
 use Rattle.sqlite.specs.Held.{state}
 use Rattle.store.proofs.migrate.change_tables.Goals as goal
 

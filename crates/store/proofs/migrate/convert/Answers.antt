@@ -1,8 +1,7 @@
-use Rattle.std.proofs.Common.{arith}
-use Rattle.sqlite.specs.State.{HasCleanDisk}
+use Rattle.store.proofs.Names.{arith, HasCleanDisk}
 use Rattle.sqlite.specs.Held.{state}
 use Rattle.store.proofs.Keeps.{stays_then}
-use Rattle.store.proofs.Migrated.{now_working, migrated_of}
+use Rattle.store.proofs.MigrationContent.{now_working, migrated_of}
 use Rattle.store.proofs.migrate.convert.Goals as goal
 
 pub returns-clause-made : goal.returns-clause-made

@@ -1,14 +1,8 @@
-use Rattle.std.proofs.Common.{refl, ◌≡◌, subst, true, OnOk, OnErr, rules, arith}
-use Rattle.sqlite.specs.State.{HasCleanDisk, KeepsCommit, Survives}
+use Rattle.store.proofs.Names.{refl, ◌≡◌, subst, true, OnOk, OnErr, rules, arith, HasCleanDisk, KeepsCommit, Survives, survives_begin, survives_then, Trees, LiesBeside, IsAtRest, Rests}
 use Rattle.sqlite.specs.Held.{state}
-use Rattle.sqlite.proofs.Callers.{survives_begin}
-use Rattle.sqlite.proofs.StateLemmas.{survives_then}
-use Rattle.sqlite_trees.specs.Tree.{Trees}
-use Rattle.store.specs.Beside.{LiesBeside}
-use Rattle.store.specs.Apply.{IsAtRest, Rests}
 use Rattle.store.specs.Open.{all, MayMigrate}
 use Rattle.store.proofs.Ran.{rolled, survives_rolled}
-use Rattle.store.proofs.Committed.{first_inside, committed, rests_unless, may_stand}
+use Rattle.store.proofs.CreationCommit.{first_inside, committed, rests_unless, may_stand}
 use Rattle.store.proofs.migrate.migrate.Goals as goal
 
 pub returns-in_err-convert-clause-refused : goal.returns-in_err-convert-clause-refused

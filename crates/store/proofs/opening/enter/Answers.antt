@@ -1,7 +1,5 @@
-use Rattle.std.proofs.Common.{◌≡◌, false, sym, ap, ◌∙◌}
-use Rattle.std.proofs.lemmas.Bool.{not-false}
+use Rattle.store.proofs.Names.{◌≡◌, false, sym, ap, ◌∙◌, not-false, IsReady, tables_of, has_any}
 use Rattle.sqlite.specs.Held.{state}
-use Rattle.store.specs.Entering.{IsReady, tables_of, has_any}
 use Rattle.store.proofs.Known.{known_none}
 use Rattle.store.proofs.opening.enter.Goals as goal
 

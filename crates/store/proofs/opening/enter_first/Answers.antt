@@ -1,9 +1,7 @@
-use Rattle.std.proofs.Common.{sym, subst, refl, rules, arith}
+use Rattle.store.proofs.Names.{sym, subst, refl, rules, arith, HasCleanDisk, wanted_of, names_for}
 use Rattle.std.specs.Bool.{IsTrue}
-use Rattle.sqlite.specs.State.{HasCleanDisk}
 use Rattle.sqlite.specs.Held.{state}
-use Rattle.store.specs.Entering.{wanted_of, names_for}
-use Rattle.store.proofs.Entered.{some_wanted, rests_after, entered_first, other_first, may_first}
+use Rattle.store.proofs.OpeningOutcome.{some_wanted, rests_after, entered_first, other_first, may_first}
 use Rattle.store.proofs.Known.{may_none}
 use Rattle.store.proofs.opening.enter_first.Goals as goal
 

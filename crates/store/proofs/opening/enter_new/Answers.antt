@@ -1,7 +1,6 @@
-use Rattle.std.proofs.Common.{rules}
+use Rattle.store.proofs.Names.{rules, wanted_of, names_for}
 use Rattle.sqlite.specs.Held.{state}
-use Rattle.store.specs.Entering.{wanted_of, names_for}
-use Rattle.store.proofs.Entered.{blank, entered_new, may_new}
+use Rattle.store.proofs.OpeningOutcome.{blank, entered_new, may_new}
 use Rattle.store.proofs.opening.enter_new.Goals as goal
 
 pub returns-in_err-make : goal.returns-in_err-make

@@ -1,8 +1,6 @@
-use Rattle.std.proofs.Common.{rules}
-use Rattle.std.proofs.lemmas.Result.{err_from_is_err_and}
+use Rattle.store.proofs.Names.{rules, err_from_is_err_and, wanted_of, names_for}
 use Rattle.sqlite.specs.Held.{state}
-use Rattle.store.specs.Entering.{wanted_of, names_for}
-use Rattle.store.proofs.Counted.{rests_unchanged}
+use Rattle.store.proofs.PlainQueries.{rests_unchanged}
 use Rattle.store.proofs.Known.{there, has_meta, enters_then, may_none}
 use Rattle.store.proofs.opening.enter_old.Goals as goal
 

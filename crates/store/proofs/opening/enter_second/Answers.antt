@@ -1,8 +1,7 @@
-use Rattle.std.proofs.Common.{sym, subst, refl, rules}
+use Rattle.store.proofs.Names.{sym, subst, refl, rules, wanted_of, names_for}
 use Rattle.std.specs.Bool.{IsTrue}
 use Rattle.sqlite.specs.Held.{state}
-use Rattle.store.specs.Entering.{wanted_of, names_for}
-use Rattle.store.proofs.Entered.{some_wanted, entered_second, other_second}
+use Rattle.store.proofs.OpeningOutcome.{some_wanted, entered_second, other_second}
 use Rattle.store.proofs.Known.{may_none}
 use Rattle.store.proofs.opening.enter_second.Goals as goal
 

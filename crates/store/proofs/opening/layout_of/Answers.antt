@@ -1,7 +1,5 @@
-use Rattle.std.proofs.Common.{◌≡◌, ◌≢◌, true, refl, pos, sym, ap, subst, ◌∙◌, rules}
-use Rattle.store.specs.Rows.{meta_rows}
-use Rattle.store.specs.Entering.{no_layout, tables_of}
-use Rattle.store.specs.Judge.{IsOnly, layouts}
+use Rattle.store.proofs.Names.{◌≡◌, ◌≢◌, true, refl, pos, sym, ap, subst, ◌∙◌, rules, meta_rows, tables_of, IsOnly, layouts}
+use Rattle.store.specs.Entering.{no_layout}
 use Rattle.store.proofs.Known.{without_first, unlawful_first, whole_first, without_second, unlawful_second, whole_second, says_at}
 use Rattle.store.proofs.opening.layout_of.Goals as goal
 

@@ -1,9 +1,7 @@
-use Rattle.std.proofs.Common.{arith}
-use Rattle.sqlite.specs.State.{HasCleanDisk, IsUnchanged}
+use Rattle.store.proofs.Names.{arith, HasCleanDisk, IsUnchanged, key_in}
 use Rattle.sqlite.specs.Held.{state}
-use Rattle.store.specs.Rows.{key_in}
 use Rattle.store.proofs.Keeps.{stays_then}
-use Rattle.store.proofs.Made.{working_same, counted_new, counted_since}
+use Rattle.store.proofs.BetweenCalls.{working_same, counted_new, counted_since}
 use Rattle.store.proofs.row_change.add.Goals as goal
 
 pub returns-then-branch-clause-counted : goal.returns-then-branch-clause-counted

@@ -1,9 +1,6 @@
-use Rattle.std.proofs.Common.{◌≡◌, ◌≢◌, ◌+◌, ◌-◌, ◌<◌, Some, None, subst, ◌∙◌, ◌^◌, arith, w64}
-use Rattle.std.proofs.lemmas.Int.{to_z_pos}
-use Rattle.sqlite.specs.State.{HasCleanDisk, IsUnchanged}
+use Rattle.store.proofs.Names.{◌≡◌, ◌≢◌, ◌+◌, ◌-◌, ◌<◌, Some, None, subst, ◌∙◌, ◌^◌, arith, w64, to_z_pos, HasCleanDisk, IsUnchanged, key_in, Finds, held_rows}
 use Rattle.sqlite.specs.Held.{state}
-use Rattle.store.specs.Rows.{key_in, Finds, held_rows}
-use Rattle.store.proofs.Made.{working_same, counted_removed, counted_missing, counted_none, counted_some, found_mid}
+use Rattle.store.proofs.BetweenCalls.{working_same, counted_removed, counted_missing, counted_none, counted_some, found_mid}
 use Rattle.store.proofs.row_change.lower.Goals as goal
 
 pub returns-in_default-clause-counted : goal.returns-in_default-clause-counted

@@ -1,5 +1,4 @@
-use Rattle.std.proofs.Common.{◌≡◌, ◌∷◌, None, Some, arith, ap, length}
-use Rattle.sqlite.specs.State.{HasCleanDisk}
+use Rattle.store.proofs.Names.{◌≡◌, ◌∷◌, None, Some, arith, ap, length, HasCleanDisk}
 use Rattle.sqlite.specs.Held.{state}
 use Rattle.gather.specs.View.{change_value}
 use Rattle.store.specs.Inside.{Does}

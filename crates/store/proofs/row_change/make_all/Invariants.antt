@@ -1,7 +1,6 @@
-use Rattle.std.proofs.Common.{◌≡◌, ◌+◌, length, take, drop, None}
-use Rattle.sqlite.specs.State.{HasCleanDisk}
+use Rattle.store.proofs.Names.{◌≡◌, ◌+◌, length, take, None, HasCleanDisk, IsWorking, DoesAll}
+use Rattle.std.proofs.Common.{drop}
 use Rattle.sqlite.specs.Held.{state}
-use Rattle.store.specs.Inside.{IsWorking, DoesAll}
 use Rattle.store.proofs.Keeps.{HaveStayed}
 use Rattle.store.proofs.row_change.make_all.Given as goal
 

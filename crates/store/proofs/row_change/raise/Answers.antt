@@ -1,9 +1,6 @@
-use Rattle.std.proofs.Common.{◌+◌, Some, arith, w64}
-use Rattle.std.proofs.lemmas.Int.{to_z_pos}
-use Rattle.sqlite.specs.State.{HasCleanDisk, IsUnchanged}
+use Rattle.store.proofs.Names.{◌+◌, Some, arith, w64, to_z_pos, HasCleanDisk, IsUnchanged, key_in, Finds, held_rows}
 use Rattle.sqlite.specs.Held.{state}
-use Rattle.store.specs.Rows.{key_in, Finds, held_rows}
-use Rattle.store.proofs.Made.{working_same, counted_added, counted_full, counted_some, found_mid}
+use Rattle.store.proofs.BetweenCalls.{working_same, counted_added, counted_full, counted_some, found_mid}
 use Rattle.store.proofs.row_change.raise.Goals as goal
 
 pub returns-then-n-ge-MOST-clause-counted : goal.returns-then-n-ge-MOST-clause-counted

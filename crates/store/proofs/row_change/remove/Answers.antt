@@ -1,10 +1,7 @@
-use Rattle.std.proofs.Common.{◌≢◌, sym, ap, ◌∙◌, arith}
-use Rattle.sqlite.specs.State.{HasCleanDisk}
+use Rattle.store.proofs.Names.{◌≢◌, sym, ap, ◌∙◌, arith, HasCleanDisk, key_in, held_rows, count, HasCounts}
 use Rattle.sqlite.specs.Held.{state}
-use Rattle.store.specs.Rows.{key_in, held_rows, count}
-use Rattle.store.specs.Inside.{HasCounts}
 use Rattle.store.proofs.Keeps.{stays_then}
-use Rattle.store.proofs.Made.{counted_one, counted_left}
+use Rattle.store.proofs.BetweenCalls.{counted_one, counted_left}
 use Rattle.store.proofs.row_change.remove.Goals as goal
 
 pub returns-then-branch-clause-counted : goal.returns-then-branch-clause-counted

@@ -1,5 +1,4 @@
-use Rattle.std.proofs.Common.{◌++◌, refl, sym, ◌∙◌, arith}
-use Rattle.std.proofs.lemmas.List.{take-append-drop}
+use Rattle.wire.proofs.Names.{◌++◌, refl, sym, ◌∙◌, arith, take-append-drop}
 use Rattle.wire.specs.Packet.{full_chunk}
 use Rattle.wire.proofs.Packets.{packed_more, packed_last}
 use Rattle.wire.proofs.packet.push_packets.Goals as goal

@@ -1,5 +1,4 @@
-use Rattle.std.proofs.Common.{◌≡◌, get_or, refl, sym, ◌∙◌, arith}
-use Rattle.byteorder.specs.Endian.{little_number}
+use Rattle.wire.proofs.Names.{◌≡◌, get_or, refl, sym, ◌∙◌, arith, little_number}
 use Rattle.wire.proofs.HeaderBytes.{is_header}
 use Rattle.wire.proofs.unpacker.read_header.Goals as goal
 

@@ -1,10 +1,4 @@
-use Rattle.std.proofs.Common.{◌≡◌, ◌∙◌, sym, ap, Some, refl, arith}
-use Rattle.std.proofs.lemmas.Bool.{ne_eqb}
-use Rattle.std.proofs.lemmas.List.{take_rest}
-use Rattle.std.proofs.lemmas.Option.{none-some}
-use Rattle.byteorder.specs.Endian.{little_number}
-use Rattle.binlog.specs.Fault.{number_at}
-use Rattle.binlog.specs.Body.{length_refusals, read_lengths}
+use Rattle.binlog.proofs.Names.{◌≡◌, ◌∙◌, sym, ap, Some, refl, arith, ne_eqb, take_rest, none-some, little_number, number_at, length_refusals, read_lengths}
 use Rattle.binlog.proofs.Formats.{first_front, first_after, format_then, are_lengths, none_wrong, is_format, format_reported}
 use Rattle.binlog.proofs.body.format.read_format.Goals as goal
 

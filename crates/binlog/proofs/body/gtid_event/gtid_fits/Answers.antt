@@ -1,5 +1,5 @@
 use Rattle.std.proofs.Common.{refl, arith}
-use Rattle.binlog.proofs.Written.{writes_gtid}
+use Rattle.binlog.proofs.EventBytes.{writes_gtid}
 use Rattle.binlog.proofs.body.gtid_event.gtid_fits.Goals as goal
 
 pub returns : goal.returns

@@ -1,7 +1,5 @@
-use Rattle.std.proofs.Common.{◌≡◌, ◌∙◌, ℕ, List, take, drop, sym, ap, subst, arith}
-use Rattle.std.proofs.lemmas.List.{take_rest}
-use Rattle.byteorder.specs.Endian.{little_number}
-use Rattle.binlog.specs.Body.{IsGtidBody}
+use Rattle.binlog.proofs.Names.{◌≡◌, ◌∙◌, ℕ, List, take, sym, ap, subst, arith, take_rest, little_number, IsGtidBody}
+use Rattle.std.proofs.Common.{drop}
 use Rattle.binlog.proofs.Bodies.{is_gtid, gtid_reported}
 use Rattle.binlog.proofs.body.gtid_event.read_gtid.Goals as goal
 

@@ -1,9 +1,6 @@
-use Rattle.std.proofs.Common.{◌≡◌, ◌≤◌, ◌-◌, ◌∙◌, arith, Ok, take, drop, length, codes, sym, ap, subst}
-use Rattle.std.proofs.lemmas.Bool.{false≢true}
-use Rattle.std.proofs.lemmas.List.{take_rest}
-use Rattle.std.proofs.lemmas.Option.{none-some}
-use Rattle.std.proofs.lemmas.Slice.Eq.{bytes_eq-Decides}
-use Rattle.binlog.specs.Body.{IsQuery, statement, text_place}
+use Rattle.binlog.proofs.Names.{◌≡◌, ◌≤◌, ◌-◌, ◌∙◌, arith, Ok, take, length, codes, sym, ap, subst, false≢true, take_rest, none-some, bytes_eq-Decides, IsQuery, text_place}
+use Rattle.std.proofs.Common.{drop}
+use Rattle.binlog.specs.Body.{statement}
 use Rattle.binlog.proofs.Bodies.{is_query, query_reported, query_not_refused, begin_alone, commit_alone, no_other}
 use Rattle.binlog.proofs.body.query.read_query.Goals as goal
 

@@ -1,6 +1,5 @@
-use Rattle.std.proofs.Common.{◌≡◌, ◌∙◌, ◌++◌, drop, sym, ap, arith}
-use Rattle.std.proofs.lemmas.List.{take_rest}
-use Rattle.byteorder.specs.Endian.{little_bytes, little_number}
+use Rattle.binlog.proofs.Names.{◌≡◌, ◌∙◌, ◌++◌, sym, ap, arith, take_rest, little_bytes, little_number}
+use Rattle.std.proofs.Common.{drop}
 use Rattle.binlog.proofs.Bodies.{long_number}
 use Rattle.binlog.proofs.body.rotate.read_rotate.Goals as goal
 

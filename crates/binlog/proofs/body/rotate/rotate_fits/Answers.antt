@@ -1,6 +1,5 @@
-use Rattle.std.proofs.Common.{arith}
-use Rattle.std.proofs.lemmas.Bool.{ltb-true, lt-ltb}
-use Rattle.binlog.proofs.Written.{writes_rotate, rotate_short}
+use Rattle.binlog.proofs.Names.{arith, ltb-true, lt-ltb}
+use Rattle.binlog.proofs.EventBytes.{writes_rotate, rotate_short}
 use Rattle.binlog.proofs.body.rotate.rotate_fits.Goals as goal
 
 pub returns : goal.returns

@@ -1,5 +1,4 @@
-use Rattle.std.proofs.Common.{◌≡◌, ℕ, ◌<◌, true}
-use Rattle.binlog.specs.Row.{is_set}
+use Rattle.binlog.proofs.Names.{◌≡◌, ℕ, ◌<◌, true, is_set}
 use Rattle.binlog.proofs.body.rows.read_present.Given as goal
 
 abbrev pub invariant-loop-i : goal.invariant-loop-i

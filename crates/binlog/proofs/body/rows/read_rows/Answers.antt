@@ -1,12 +1,7 @@
-use Rattle.std.proofs.Common.{◌≡◌, ℕ, ◌+◌, ◌-◌, ◌≤◌, List, length, take, drop, None, sym, ap, subst, ◌∙◌, arith}
-use Rattle.std.proofs.lemmas.List.{take_rest}
-use Rattle.std.proofs.lemmas.Option.{none-some}
-use Rattle.std.proofs.lemmas.Result.{err_from_is_err_and}
-use Rattle.byteorder.specs.Endian.{little_number}
-use Rattle.binlog.specs.Count.{count_width, count_at, no_count}
-use Rattle.binlog.specs.Fault.{number_at}
-use Rattle.binlog.specs.Rows.{RowsValue, IsRows, presents_size, presents_fault}
-use Rattle.binlog.specs.declared.fault.EventFaultKind.TheVariants.{Columns}
+use Rattle.binlog.proofs.Names.{◌≡◌, ℕ, ◌+◌, ◌-◌, ◌≤◌, List, length, take, None, sym, ap, subst, ◌∙◌, arith, take_rest, none-some, err_from_is_err_and, little_number, count_width, count_at, number_at, RowsValue, IsRows, presents_size, Columns}
+use Rattle.std.proofs.Common.{drop}
+use Rattle.binlog.specs.Count.{no_count}
+use Rattle.binlog.specs.Rows.{presents_fault}
 use Rattle.binlog.proofs.Counts.{is_counted}
 use Rattle.binlog.proofs.RowsHead.{AreParts, count_place, columns_of, rows_place, stated, is_rows, rows_reported, not_uncounted, rows_then, only_line}
 use Rattle.binlog.proofs.body.rows.read_rows.Goals as goal

@@ -1,8 +1,5 @@
-use Rattle.std.proofs.Common.{◌≡◌, ◌+◌, refl, arith}
-use Rattle.std.proofs.lemmas.Bool.{le-leb, leb-true}
-use Rattle.binlog.specs.Rows.{presents_size}
-use Rattle.binlog.specs.RowsView.{rows_value}
-use Rattle.binlog.proofs.RowsEventWritten.{spells_1, spells_3, spells_4, spells_9, has_by_width, by_width_1}
+use Rattle.binlog.proofs.Names.{◌≡◌, ◌+◌, refl, arith, le-leb, leb-true, presents_size, rows_value}
+use Rattle.binlog.proofs.RowsEventBytes.{spells_1, spells_3, spells_4, spells_9, has_by_width, by_width_1}
 use Rattle.binlog.proofs.body.rows.rows_event_fits.Goals as goal
 
 pub returns-in-1 : goal.returns-in-1

@@ -1,9 +1,6 @@
-use Rattle.std.proofs.Common.{◌++◌, ◌-◌, length, ap, arith}
-use Rattle.std.proofs.lemmas.List.{length-append}
-use Rattle.binlog.specs.Rows.{presents_size}
-use Rattle.binlog.specs.RowsView.{rows_value}
+use Rattle.binlog.proofs.Names.{◌++◌, ◌-◌, length, ap, arith, length-append, presents_size, rows_value}
 use Rattle.binlog.specs.Writing.{rows_head, count_bytes, presents_bytes}
-use Rattle.binlog.proofs.Kept.{on_err, stays, unmoved, longer}
+use Rattle.binlog.proofs.Prefixes.{on_err, stays, unmoved, longer}
 use Rattle.binlog.proofs.body.rows.write_rows_event.Goals as goal
 
 pub returns-in_err-write_padded_count-clause-kept : goal.returns-in_err-write_padded_count-clause-kept

@@ -1,6 +1,5 @@
-use Rattle.std.proofs.Common.{◌≡◌, ℕ, ◌≤◌, ◌∷◌, [], ◌+◌, ◌-◌, suc, length, replicate, ap, rules, arith}
-use Rattle.std.proofs.lemmas.List.{length-replicate}
-use Rattle.binlog.proofs.Kept.{first_write, next_write, last_write, next_fits}
+use Rattle.binlog.proofs.Names.{◌≡◌, ℕ, ◌≤◌, ◌∷◌, [], ◌+◌, ◌-◌, suc, length, replicate, ap, rules, arith, length-replicate}
+use Rattle.binlog.proofs.Prefixes.{first_write, next_write, last_write, next_fits}
 use Rattle.binlog.proofs.body.rows.write_zeros.Goals as goal
 
 pub loop-init : goal.loop-init

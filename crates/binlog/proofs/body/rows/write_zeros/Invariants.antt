@@ -1,6 +1,5 @@
-use Rattle.std.proofs.Common.{◌-◌, replicate, ◌≤◌}
-use Rattle.std.specs.Prelude.{vec_capacity}
-use Rattle.binlog.proofs.Kept.{Writes}
+use Rattle.binlog.proofs.Names.{◌-◌, replicate, ◌≤◌, vec_capacity}
+use Rattle.binlog.proofs.Prefixes.{Writes}
 use Rattle.binlog.proofs.body.rows.write_zeros.Given as goal
 
 abbrev pub invariant-loop : goal.invariant-loop

@@ -1,6 +1,5 @@
-use Rattle.std.proofs.Common.{refl, arith}
-use Rattle.binlog.specs.TableView.{table_value}
-use Rattle.binlog.proofs.MapWritten.{has_map}
+use Rattle.binlog.proofs.Names.{refl, arith, table_value}
+use Rattle.binlog.proofs.TableMapBytes.{has_map}
 use Rattle.binlog.proofs.body.table_map.map_fits.Goals as goal
 
 pub returns-in-1-to-4096 : goal.returns-in-1-to-4096

@@ -1,8 +1,5 @@
-use Rattle.std.proofs.Common.{◌≡◌, ℕ, ◌+◌, ◌≤◌, List, length, drop, sym, ap, subst, ◌∙◌, arith}
-use Rattle.std.proofs.lemmas.List.{take_rest}
-use Rattle.byteorder.specs.Endian.{little_number}
-use Rattle.binlog.specs.Fault.{number_at}
-use Rattle.binlog.specs.Table.{IsNamed, terminator_place}
+use Rattle.binlog.proofs.Names.{◌≡◌, ℕ, ◌+◌, ◌≤◌, List, length, sym, ap, subst, ◌∙◌, arith, take_rest, little_number, number_at, IsNamed, terminator_place}
+use Rattle.std.proofs.Common.{drop}
 use Rattle.binlog.proofs.TableNames.{is_named, names_reported, found}
 use Rattle.binlog.proofs.body.table_map.read_names.Goals as goal
 

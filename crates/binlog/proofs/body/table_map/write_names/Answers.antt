@@ -1,6 +1,5 @@
-use Rattle.std.proofs.Common.{ℕ, List, [], ◌∷◌, ◌++◌, length, arith}
-use Rattle.std.proofs.lemmas.List.{length-append}
-use Rattle.binlog.proofs.Kept.{on_err, stays, unmoved}
+use Rattle.binlog.proofs.Names.{ℕ, List, [], ◌∷◌, ◌++◌, length, arith, length-append}
+use Rattle.binlog.proofs.Prefixes.{on_err, stays, unmoved}
 use Rattle.binlog.proofs.body.table_map.write_names.Goals as goal
 
 pub returns-in_err-extend_from_slice-2-clause-kept : goal.returns-in_err-extend_from_slice-2-clause-kept

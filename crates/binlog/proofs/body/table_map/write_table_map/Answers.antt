@@ -1,10 +1,6 @@
-use Rattle.std.proofs.Common.{◌++◌, length, map, ap, ◌∙◌, arith}
-use Rattle.std.specs.Prelude.{flat_map}
-use Rattle.wire.specs.Integer.{length_encoded}
-use Rattle.binlog.specs.Column.{type_code, metadata}
-use Rattle.binlog.specs.TableView.{table_value}
-use Rattle.binlog.specs.Writing.{names_bytes, full_bitmap}
-use Rattle.binlog.proofs.Kept.{six_parts, on_err, stays, longer, length_6}
+use Rattle.binlog.proofs.Names.{◌++◌, length, map, ap, ◌∙◌, arith, flat_map, length_encoded, type_code, metadata, table_value, full_bitmap}
+use Rattle.binlog.specs.Writing.{names_bytes}
+use Rattle.binlog.proofs.Prefixes.{six_parts, on_err, stays, longer, length_6}
 use Rattle.binlog.proofs.body.table_map.write_table_map.Goals as goal
 
 pub returns-clause-ok : goal.returns-clause-ok

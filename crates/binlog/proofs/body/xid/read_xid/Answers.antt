@@ -1,7 +1,5 @@
-use Rattle.std.proofs.Common.{◌≡◌, ◌∙◌, ◌++◌, [], drop, sym, ap, arith}
-use Rattle.std.proofs.Math.ListN.{drop_of_length-le}
-use Rattle.std.proofs.lemmas.List.{take_rest, append-nil}
-use Rattle.byteorder.specs.Endian.{little_bytes, little_number}
+use Rattle.binlog.proofs.Names.{◌≡◌, ◌∙◌, ◌++◌, [], sym, ap, arith, drop_of_length-le, take_rest, append-nil, little_bytes, little_number}
+use Rattle.std.proofs.Common.{drop}
 use Rattle.binlog.proofs.Bodies.{long_number}
 use Rattle.binlog.proofs.body.xid.read_xid.Goals as goal
 

@@ -1,5 +1,5 @@
 use Rattle.std.proofs.Common.{refl, arith}
-use Rattle.binlog.proofs.Written.{writes_xid}
+use Rattle.binlog.proofs.EventBytes.{writes_xid}
 use Rattle.binlog.proofs.body.xid.xid_fits.Goals as goal
 
 pub returns : goal.returns

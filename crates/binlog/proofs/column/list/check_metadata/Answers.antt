@@ -1,6 +1,4 @@
-use Rattle.std.proofs.Common.{rules, Some, get_or, sym, ap, ◌∙◌, subst, arith}
-use Rattle.std.proofs.lemmas.List.{take_rest}
-use Rattle.binlog.specs.Column.{IsColumn, column_fault}
+use Rattle.binlog.proofs.Names.{rules, Some, get_or, sym, ap, ◌∙◌, subst, arith, take_rest, IsColumn, column_fault}
 use Rattle.binlog.proofs.TableColumns.{first_checked, column_passes, column_stops, last_checked}
 use Rattle.binlog.proofs.column.list.check_metadata.Goals as goal
 

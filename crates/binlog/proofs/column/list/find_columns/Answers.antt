@@ -1,6 +1,4 @@
-use Rattle.std.proofs.Common.{◌+◌, ◌<◌, ◌≤◌, Some, length, refl, sym, ap, ◌∙◌, arith}
-use Rattle.std.proofs.lemmas.Result.{err_from_is_err_and}
-use Rattle.binlog.specs.Row.{bitmap_size}
+use Rattle.binlog.proofs.Names.{◌+◌, ◌<◌, ◌≤◌, Some, length, refl, sym, ap, ◌∙◌, arith, err_from_is_err_and, bitmap_size}
 use Rattle.binlog.proofs.TableColumns.{counts_of, measured_of, short_types, wrong_type, no_measure, wrong_measure, short_metadata, wrong_metadata, short_bitmap, no_line, read_anywhere}
 use Rattle.binlog.proofs.column.list.find_columns.Goals as goal
 

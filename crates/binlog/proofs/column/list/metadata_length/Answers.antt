@@ -1,8 +1,8 @@
 use Rattle.std.proofs.Common.{length, ap, ◌∙◌, arith}
 use Rattle.std.specs.Prelude.{flat_map, unwrap_or}
 use Rattle.binlog.specs.Column.{metadata, metadata_size}
-use Rattle.binlog.proofs.ColumnsWritten.{next_sum}
-use Rattle.binlog.proofs.MapWritten.{all_metadata_short}
+use Rattle.binlog.proofs.ColumnBytes.{next_sum}
+use Rattle.binlog.proofs.TableMapBytes.{all_metadata_short}
 use Rattle.binlog.proofs.column.list.metadata_length.Goals as goal
 
 pub loop-column-init : goal.loop-column-init

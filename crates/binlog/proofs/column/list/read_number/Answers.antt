@@ -1,5 +1,4 @@
-use Rattle.std.proofs.Common.{Some, ap, sym, ◌∙◌, arith}
-use Rattle.std.proofs.lemmas.Result.{err_from_is_err_and}
+use Rattle.binlog.proofs.Names.{Some, ap, sym, ◌∙◌, arith, err_from_is_err_and}
 use Rattle.binlog.proofs.TableColumns.{no_number, wrong_number}
 use Rattle.binlog.proofs.column.list.read_number.Goals as goal
 

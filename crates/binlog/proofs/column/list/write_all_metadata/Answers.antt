@@ -1,8 +1,5 @@
-use Rattle.std.proofs.Common.{ap, ◌∙◌, arith}
-use Rattle.std.specs.Prelude.{flat_map}
-use Rattle.std.proofs.lemmas.Result.{err_from_is_err_and}
-use Rattle.binlog.specs.Column.{metadata}
-use Rattle.binlog.proofs.Kept.{first_write, next_write, last_write, next_fits}
+use Rattle.binlog.proofs.Names.{ap, ◌∙◌, arith, flat_map, err_from_is_err_and, metadata}
+use Rattle.binlog.proofs.Prefixes.{first_write, next_write, last_write, next_fits}
 use Rattle.binlog.proofs.column.list.write_all_metadata.Goals as goal
 
 pub loop-column-init : goal.loop-column-init

@@ -1,7 +1,5 @@
-use Rattle.std.proofs.Common.{◌≤◌}
-use Rattle.std.specs.Prelude.{flat_map, vec_capacity}
-use Rattle.binlog.specs.Column.{metadata}
-use Rattle.binlog.proofs.Kept.{Writes}
+use Rattle.binlog.proofs.Names.{◌≤◌, flat_map, vec_capacity, metadata}
+use Rattle.binlog.proofs.Prefixes.{Writes}
 use Rattle.binlog.proofs.column.list.write_all_metadata.Given as goal
 
 abbrev pub invariant-loop-column : goal.invariant-loop-column

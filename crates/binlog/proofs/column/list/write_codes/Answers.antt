@@ -1,6 +1,5 @@
-use Rattle.std.proofs.Common.{◌∷◌, [], map, sym, ap, ◌∙◌, rules, arith}
-use Rattle.binlog.specs.Column.{type_code}
-use Rattle.binlog.proofs.Kept.{first_write, next_write, last_write, next_fits}
+use Rattle.binlog.proofs.Names.{◌∷◌, [], map, sym, ap, ◌∙◌, rules, arith, type_code}
+use Rattle.binlog.proofs.Prefixes.{first_write, next_write, last_write, next_fits}
 use Rattle.binlog.proofs.column.list.write_codes.Goals as goal
 
 pub loop-column-init : goal.loop-column-init

@@ -1,7 +1,5 @@
-use Rattle.std.proofs.Common.{map, ◌≤◌}
-use Rattle.std.specs.Prelude.{vec_capacity}
-use Rattle.binlog.specs.Column.{type_code}
-use Rattle.binlog.proofs.Kept.{Writes}
+use Rattle.binlog.proofs.Names.{map, ◌≤◌, vec_capacity, type_code}
+use Rattle.binlog.proofs.Prefixes.{Writes}
 use Rattle.binlog.proofs.column.list.write_codes.Given as goal
 
 abbrev pub invariant-loop-column : goal.invariant-loop-column

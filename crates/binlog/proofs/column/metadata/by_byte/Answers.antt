@@ -1,6 +1,4 @@
-use Rattle.std.proofs.Common.{arith, refl, ap}
-use Rattle.std.proofs.lemmas.Bool.{ne_eqb}
-use Rattle.std.specs.Prelude.{nat_le}
+use Rattle.binlog.proofs.Names.{arith, refl, ap, ne_eqb, nat_le}
 use Rattle.binlog.specs.Column.{metadata_fault, is_between}
 use Rattle.binlog.proofs.Columns.{known, no_more_1, each_second}
 use Rattle.binlog.proofs.column.metadata.by_byte.Goals as goal

@@ -1,6 +1,5 @@
-use Rattle.std.proofs.Common.{◌+◌, ◌*◌, ◌<◌, arith, refl}
-use Rattle.std.proofs.lemmas.Bool.{lt-leb, le-leb, and_right}
-use Rattle.std.specs.Prelude.{nat_le}
+use Rattle.binlog.proofs.Names.{◌+◌, ◌*◌, ◌<◌, arith, refl, lt-leb, le-leb, nat_le}
+use Rattle.std.proofs.lemmas.Bool.{and_right}
 use Rattle.binlog.specs.Column.{metadata_fault}
 use Rattle.binlog.proofs.Columns.{known, no_more_2}
 use Rattle.binlog.proofs.column.metadata.by_bytes.Goals as goal

@@ -1,7 +1,4 @@
-use Rattle.std.proofs.Common.{◌+◌, ◌*◌, ◌<◌, [], ◌∷◌, ap, ◌∙◌, arith}
-use Rattle.std.proofs.lemmas.Bool.{lt-ltb}
-use Rattle.binlog.specs.Column.{metadata}
-use Rattle.binlog.specs.declared.column.kind.ColumnKind.TheVariants.{Enum, Set}
+use Rattle.binlog.proofs.Names.{◌+◌, ◌*◌, ◌<◌, [], ◌∷◌, ap, ◌∙◌, arith, lt-ltb, metadata, Enum, Set}
 use Rattle.binlog.proofs.Columns.{string_bytes, string_small, metadata_of}
 use Rattle.binlog.proofs.column.metadata.string.Goals as goal
 

@@ -1,10 +1,6 @@
-use Rattle.std.proofs.Common.{◌≡◌, ◌≤◌, ◌+◌, ◌++◌, ◌∙◌, subst, sym, ap, take, length, rules, arith}
-use Rattle.std.specs.Prelude.{IsTrue}
+use Rattle.binlog.proofs.Names.{◌≡◌, ◌≤◌, ◌+◌, ◌++◌, ◌∙◌, subst, sym, ap, take, length, rules, arith, IsTrue, little_bytes, bytes_cell, owned_value, value_bytes, value_fits}
 use Rattle.std.proofs.lemmas.List.{append_assoc}
-use Rattle.byteorder.specs.Endian.{little_bytes}
-use Rattle.binlog.specs.Cell.{bytes_cell, owned_value}
 use Rattle.binlog.specs.Shape.{is_readable}
-use Rattle.binlog.specs.RowsWritten.{value_bytes, value_fits}
 use Rattle.binlog.proofs.RowWriting.{low_bytes, number_bytes, prefix_short, prefixed_length, low_length}
 use Rattle.binlog.proofs.column.value.write_value.Goals as goal
 

@@ -1,9 +1,5 @@
-use Rattle.std.proofs.Common.{sym, subst, refl}
-use Rattle.binlog.specs.EventView.{event_value}
-use Rattle.binlog.specs.TableView.{table_value}
-use Rattle.binlog.specs.RowsView.{rows_value}
-use Rattle.binlog.specs.Writing.{IsWritable}
-use Rattle.binlog.proofs.Written.{writes_format, writes_begin, writes_commit, writes_neutral, writes_stop, writes_map, map_of, writes_rows, rows_body_of, no_other_map}
+use Rattle.binlog.proofs.Names.{sym, subst, refl, event_value, table_value, rows_value, IsWritable}
+use Rattle.binlog.proofs.EventBytes.{writes_format, writes_begin, writes_commit, writes_neutral, writes_stop, writes_map, map_of, writes_rows, rows_body_of, no_other_map}
 use Rattle.binlog.proofs.event.Event.fits.Goals as goal
 
 pub returns-in-Format : goal.returns-in-Format

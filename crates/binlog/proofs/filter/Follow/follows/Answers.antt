@@ -1,9 +1,6 @@
-use Rattle.std.proofs.Common.{◌≡◌, ◌∙◌, length, sym, ap}
-use Rattle.std.proofs.lemmas.List.{length-map}
+use Rattle.binlog.proofs.Names.{◌≡◌, ◌∙◌, length, sym, ap, length-map, name_cmp, admits, name_list}
 use Rattle.std.specs.FinSet as set
-use Rattle.binlog.specs.Filter.{name_cmp, admits}
-use Rattle.binlog.specs.FilterView.{name_list}
-use Rattle.binlog.proofs.Admitted.{follow_by}
+use Rattle.binlog.proofs.TableSets.{follow_by}
 use Rattle.binlog.proofs.filter.Follow.follows.Goals as goal
 
 pub returns-then-is_empty : goal.returns-then-is_empty

@@ -1,9 +1,7 @@
-use Rattle.std.proofs.Common.{◌≡◌, sym, inl, inr, subst, subst₂, ap, refl, ◌∙◌}
+use Rattle.binlog.proofs.Names.{◌≡◌, sym, inl, inr, subst, ap, refl, ◌∙◌, false≢true, cases_Bool, name_cmp, AreAmong, name_list}
+use Rattle.std.proofs.Common.{subst₂}
 use Rattle.std.specs.Bool.{IsTrue}
 use Rattle.std.specs.FinSet as set
-use Rattle.std.proofs.lemmas.Bool.{false≢true, cases_Bool}
-use Rattle.binlog.specs.Filter.{name_cmp, AreAmong}
-use Rattle.binlog.specs.FilterView.{name_list}
 use Rattle.binlog.proofs.SameNames.{one_set, of_one_set}
 use Rattle.binlog.proofs.filter.Follow.is_same.Goals as goal
 

@@ -1,6 +1,4 @@
-use Rattle.std.proofs.Common.{sym, ap, ◌∙◌, arith, Ok}
-use Rattle.std.proofs.lemmas.List.{take_rest}
-use Rattle.byteorder.specs.Endian.{little_number}
+use Rattle.binlog.proofs.Names.{sym, ap, ◌∙◌, arith, Ok, take_rest, little_number}
 use Rattle.binlog.proofs.Headers.{is_framed, reported}
 use Rattle.binlog.proofs.header.Header.read.Goals as goal
 

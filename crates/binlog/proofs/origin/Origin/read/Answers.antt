@@ -1,6 +1,5 @@
-use Rattle.std.proofs.Common.{◌≡◌, ◌∙◌, ℕ, drop, sym, ap, subst, arith}
-use Rattle.std.proofs.lemmas.List.{take_rest}
-use Rattle.byteorder.specs.Endian.{little_number}
+use Rattle.binlog.proofs.Names.{◌≡◌, ◌∙◌, ℕ, sym, ap, subst, arith, take_rest, little_number}
+use Rattle.std.proofs.Common.{drop}
 use Rattle.binlog.specs.Origin.{IsWrittenAt}
 use Rattle.binlog.proofs.Origins.{is_written_at}
 use Rattle.binlog.proofs.origin.Origin.read.Goals as goal

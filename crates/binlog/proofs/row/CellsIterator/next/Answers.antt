@@ -1,8 +1,6 @@
-use Rattle.std.proofs.Common.{◌≡◌, ◌+◌, ◌∷◌, Ok, Err, drop, sym, ap, ◌∙◌}
-use Rattle.std.proofs.lemmas.Bool.{ltb-true}
-use Rattle.std.proofs.lemmas.List.{take_rest}
-use Rattle.binlog.specs.Shape.{shape, value_end, cell_of}
-use Rattle.binlog.specs.Row.{kinds, cells_from}
+use Rattle.binlog.proofs.Names.{◌≡◌, ◌+◌, ◌∷◌, Ok, Err, sym, ap, ◌∙◌, ltb-true, take_rest, shape, value_end, cell_of, kinds}
+use Rattle.std.proofs.Common.{drop}
+use Rattle.binlog.specs.Row.{cells_from}
 use Rattle.binlog.proofs.RowCells.{null_first, value_first, none_first, fewer}
 use Rattle.binlog.proofs.row.CellsIterator.next.Goals as goal
 

@@ -1,6 +1,5 @@
-use Rattle.std.proofs.Common.{◌≡◌, Ok, Err, length, take, sym, ap, subst, ◌∙◌, refl, arith}
-use Rattle.std.proofs.lemmas.List.{length-take, take_at}
-use Rattle.binlog.specs.Row.{kinds, row_end, row_cells, IsRow}
+use Rattle.binlog.proofs.Names.{◌≡◌, Ok, Err, length, take, sym, ap, subst, ◌∙◌, refl, arith, length-take, take_at, kinds, row_cells}
+use Rattle.binlog.specs.Row.{row_end, IsRow}
 use Rattle.binlog.proofs.RowCells.{row_is_read, row_is_there, own_cells, holds_bitmap, split_cells}
 use Rattle.binlog.proofs.row.Row.read.Goals as goal
 

@@ -1,10 +1,8 @@
-use Rattle.std.proofs.Common.{◌≡◌, ◌≤◌, Err, length, take, drop, sym, ap, subst, ◌∙◌, arith}
-use Rattle.std.proofs.lemmas.List.{length-drop, take_rest}
+use Rattle.binlog.proofs.Names.{◌≡◌, ◌≤◌, Err, length, take, sym, ap, subst, ◌∙◌, arith, length-drop, take_rest, err_from_is_err_and, kinds, pair_end, IsBytes-drop}
+use Rattle.std.proofs.Common.{drop}
 use Rattle.std.specs.Result.{IfErr}
-use Rattle.std.proofs.lemmas.Result.{err_from_is_err_and}
-use Rattle.binlog.specs.Row.{kinds, IsRow, row_end}
-use Rattle.binlog.specs.Rows.{inserted, deleted, pair_of, pair_end}
-use Rattle.wire.proofs.Cuts.{IsBytes-drop}
+use Rattle.binlog.specs.Row.{IsRow, row_end}
+use Rattle.binlog.specs.Rows.{inserted, deleted, pair_of}
 use Rattle.binlog.proofs.RowsItems.{row_early, row_front, both_rows, early_second}
 use Rattle.binlog.proofs.row_pair.RowPair.read.Goals as goal
 

@@ -1,7 +1,4 @@
-use Rattle.std.proofs.Common.{◌≤◌, length, arith}
-use Rattle.std.proofs.lemmas.List.{length-map}
-use Rattle.binlog.specs.Row.{kinds}
-use Rattle.binlog.specs.declared.column.kind.ColumnType.{ColumnType}
+use Rattle.binlog.proofs.Names.{◌≤◌, length, arith, length-map, kinds, ColumnType}
 use Rattle.binlog.proofs.RowsItems.{are_items}
 use Rattle.binlog.proofs.rows.Rows.new.Goals as goal
 

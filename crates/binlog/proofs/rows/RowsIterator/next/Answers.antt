@@ -1,8 +1,4 @@
-use Rattle.std.proofs.Common.{◌+◌, ◌∷◌, ◌≤◌, Ok, length, sym, ◌∙◌, arith}
-use Rattle.std.proofs.lemmas.List.{length-map, take_rest}
-use Rattle.binlog.specs.Row.{kinds}
-use Rattle.binlog.specs.Rows.{items_of}
-use Rattle.binlog.specs.declared.column.kind.ColumnType.{ColumnType}
+use Rattle.binlog.proofs.Names.{◌+◌, ◌∷◌, ◌≤◌, Ok, length, sym, ◌∙◌, arith, length-map, take_rest, kinds, items_of, ColumnType}
 use Rattle.binlog.proofs.RowsItems.{pair_first, shorter}
 use Rattle.binlog.proofs.rows.RowsIterator.next.Goals as goal
 

@@ -1,6 +1,4 @@
-use Rattle.std.proofs.Common.{List, ℕ, ap, ◌∙◌}
-use Rattle.std.specs.Prelude.{codes}
-use Rattle.std.specs.Str.{bytes_eq}
+use Rattle.columns.proofs.Names.{List, ℕ, ap, ◌∙◌, codes, bytes_eq}
 use Rattle.columns.specs.ColumnTypes.TypeValue.{scalar, enumeration, choices}
 use Rattle.columns.proofs.MemberTypes.{name_cut, enum_letters, set_letters}
 use Rattle.columns.proofs.Types.{never}

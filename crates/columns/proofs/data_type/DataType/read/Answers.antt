@@ -1,7 +1,4 @@
-use Rattle.std.proofs.Common.{◌≡◌, ◌++◌, sym, ◌∙◌, subst}
-use Rattle.std.specs.Prelude.{IsTrue}
-use Rattle.columns.specs.DataType.{is_type}
-use Rattle.columns.specs.TypeText.{sign_text, arguments_text}
+use Rattle.columns.proofs.Names.{◌≡◌, ◌++◌, sym, ◌∙◌, subst, IsTrue, is_type, sign_text, arguments_text}
 use Rattle.columns.proofs.Types.{same_head, none_some, some_is, no_letter}
 use Rattle.columns.proofs.data_type.DataType.read.Goals as goal
 

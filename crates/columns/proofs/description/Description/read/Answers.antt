@@ -1,5 +1,4 @@
-use Rattle.std.proofs.Common.{refl, ◌≡◌, [], length, ap, sym, arith}
-use Rattle.std.proofs.lemmas.Bool.{eqb-true}
+use Rattle.columns.proofs.Names.{refl, ◌≡◌, [], length, ap, sym, arith, eqb-true}
 use Rattle.columns.proofs.TablesAhead.{at_last, empty}
 use Rattle.columns.proofs.Ahead.{no_two}
 use Rattle.columns.proofs.WrongLines.{no_columns}

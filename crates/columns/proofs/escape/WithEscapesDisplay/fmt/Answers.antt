@@ -1,6 +1,5 @@
-use Rattle.std.proofs.Common.{◌≡◌, ◌++◌, length, ap, refl, arith, take, get_or, List, ℕ, ◌∙◌, sym, subst, rules}
-use Rattle.std.specs.Str.{IsUtf8}
-use Rattle.std.proofs.Output.{has_written_append, has_written_of_eq}
+use Rattle.columns.proofs.Names.{◌≡◌, ◌++◌, length, ap, refl, arith, take, get_or, List, ℕ, ◌∙◌, sym, subst, rules, IsUtf8, has_written_of_eq}
+use Rattle.std.proofs.Output.{has_written_append}
 use Rattle.std.proofs.lemmas.Str.{IsCharBoundary-start, IsCharBoundary-after_ascii}
 use Rattle.columns.specs.Escapes.{escape, escaped}
 use Rattle.columns.proofs.EscapeCodes.{pair_written, rest_written, pair_small}

@@ -1,6 +1,5 @@
-use Rattle.std.proofs.Common.{◌≤◌, take}
+use Rattle.columns.proofs.Names.{◌≤◌, take, HasWritten, IsPlainFormatter}
 use Rattle.std.specs.Str.{IsCharBoundary}
-use Rattle.std.specs.Fmt.{HasWritten, IsPlainFormatter}
 use Rattle.columns.specs.Escapes.{escaped}
 use Rattle.columns.proofs.EscapeCodes.{ArePlain}
 use Rattle.columns.proofs.escape.WithEscapesDisplay.fmt.Given as goal

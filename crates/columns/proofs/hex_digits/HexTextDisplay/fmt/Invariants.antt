@@ -1,6 +1,4 @@
-use Rattle.std.proofs.Common.{take}
-use Rattle.std.specs.Fmt.{HasWritten, IsPlainFormatter}
-use Rattle.columns.specs.Escapes.{hex_text}
+use Rattle.columns.proofs.Names.{take, HasWritten, IsPlainFormatter, hex_text}
 use Rattle.columns.proofs.hex_digits.HexTextDisplay.fmt.Given as goal
 
 abbrev pub invariant-loop-byte : goal.invariant-loop-byte

@@ -1,9 +1,6 @@
-use Rattle.std.proofs.Common.{subst, ◌∷◌, ◌++◌, [], ◌∙◌, sym}
-use Rattle.std.specs.Str.{IsUtf8}
-use Rattle.std.proofs.Output.{has_written_of_eq}
+use Rattle.columns.proofs.Names.{subst, ◌∷◌, ◌++◌, [], ◌∙◌, sym, IsUtf8, has_written_of_eq, hex_text, Quoted}
 use Rattle.std.proofs.lemmas.Str.{is_utf8-from_IsUtf8}
-use Rattle.columns.specs.Escapes.{escaped, hex_text}
-use Rattle.columns.specs.declared.escape.Layer.TheVariants.{Quoted}
+use Rattle.columns.specs.Escapes.{escaped}
 use Rattle.columns.proofs.MemberLists.{no_utf8}
 use Rattle.columns.proofs.members.MemberDisplay.fmt.Goals as goal
 

@@ -1,7 +1,4 @@
-use Rattle.std.proofs.Common.{take}
-use Rattle.std.specs.List.{flat_map}
-use Rattle.std.specs.Fmt.{HasWritten, IsPlainFormatter}
-use Rattle.columns.specs.Members.{member_bytes}
+use Rattle.columns.proofs.Names.{take, flat_map, HasWritten, IsPlainFormatter, member_bytes}
 use Rattle.columns.proofs.MemberLists.{item}
 use Rattle.columns.proofs.members.MembersDisplay.fmt.Given as goal
 

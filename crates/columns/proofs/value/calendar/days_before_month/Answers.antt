@@ -1,5 +1,4 @@
-use Rattle.std.proofs.Common.{◌≡◌, ℕ, suc, ◌+◌, ◌-◌, ap, ◌∙◌, arith}
-use Rattle.columns.specs.Calendar.{month_length}
+use Rattle.columns.proofs.Names.{◌≡◌, ℕ, suc, ◌+◌, ◌-◌, ap, ◌∙◌, arith, month_length}
 use Rattle.columns.specs.CalendarDays.{months_days}
 use Rattle.columns.proofs.CalendarDays.{no_months, more_months, month_short}
 use Rattle.columns.proofs.value.calendar.days_before_month.Goals as goal

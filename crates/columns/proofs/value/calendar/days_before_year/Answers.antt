@@ -1,5 +1,4 @@
-use Rattle.std.proofs.Common.{◌≡◌, ℕ, suc, ◌+◌, ◌-◌, ap, ◌∙◌, arith}
-use Rattle.columns.specs.Calendar.{year_length}
+use Rattle.columns.proofs.Names.{◌≡◌, ℕ, suc, ◌+◌, ◌-◌, ap, ◌∙◌, arith, year_length}
 use Rattle.columns.specs.CalendarDays.{years_days}
 use Rattle.columns.proofs.CalendarDays.{no_years, more_years, year_short}
 use Rattle.columns.proofs.value.calendar.days_before_year.Goals as goal

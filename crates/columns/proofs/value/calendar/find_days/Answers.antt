@@ -1,5 +1,4 @@
-use Rattle.std.proofs.Common.{◌≡◌, ℕ, ◌+◌, ap, ◌∙◌, arith}
-use Rattle.columns.specs.Calendar.{year_of, month_of}
+use Rattle.columns.proofs.Names.{◌≡◌, ℕ, ◌+◌, ap, ◌∙◌, arith, year_of, month_of}
 use Rattle.columns.proofs.CalendarDays.{days_of}
 use Rattle.columns.proofs.value.calendar.find_days.Goals as goal
 

@@ -1,7 +1,6 @@
-use Rattle.std.proofs.Common.{◌≡◌, take, drop, ap, sym, subst, ◌∙◌}
-use Rattle.std.specs.Prelude.{IsTrue}
-use Rattle.byteorder.specs.Endian.{big_bytes}
-use Rattle.columns.specs.Times.{is_fraction, moment_number, clock_number, fraction_bytes}
+use Rattle.columns.proofs.Names.{◌≡◌, take, ap, sym, subst, ◌∙◌, IsTrue, big_bytes, is_fraction, clock_number}
+use Rattle.std.proofs.Common.{drop}
+use Rattle.columns.specs.Times.{moment_number, fraction_bytes}
 use Rattle.columns.proofs.Types.{and_then}
 use Rattle.columns.proofs.MomentRange.{moment_fits}
 use Rattle.columns.proofs.value.datetime.of_bytes.Goals as goal

@@ -1,6 +1,5 @@
-use Rattle.std.proofs.Common.{◌-◌, List, ℕ, length, get_or, take, drop, ap, subst, arith}
-use Rattle.std.specs.Prelude.{IsTrue}
-use Rattle.columns.specs.Decimals.{are_digits}
+use Rattle.columns.proofs.Names.{◌-◌, List, ℕ, length, get_or, take, ap, subst, arith, IsTrue, are_digits}
+use Rattle.std.proofs.Common.{drop}
 use Rattle.columns.proofs.DigitNumbers.{digit_small, number_below}
 use Rattle.columns.proofs.DigitGroups.{whole_of}
 use Rattle.columns.proofs.value.decimal.+number_of.Goals as goal

@@ -1,6 +1,5 @@
-use Rattle.std.proofs.Common.{◌≡◌, ◌+◌, ◌*◌, ◌/◌, ◌^◌, ◌<◌, ◌++◌, ◌∷◌, List, ℕ, length, set, ap, sym, subst, ◌∙◌, arith, div-add-mod'}
-use Rattle.std.specs.Prelude.{IsTrue}
-use Rattle.columns.specs.Decimals.{are_digits, digits_number}
+use Rattle.columns.proofs.Names.{◌≡◌, ◌+◌, ◌*◌, ◌/◌, ◌^◌, ◌<◌, ◌++◌, ◌∷◌, List, ℕ, length, set, ap, sym, subst, ◌∙◌, arith, IsTrue, are_digits, digits_number}
+use Rattle.std.proofs.Common.{div-add-mod'}
 use Rattle.columns.proofs.DigitNumbers.{digits_more, one_in_front, quotient_small}
 use Rattle.columns.proofs.value.decimal.+put_digits.Goals as goal
 

@@ -1,8 +1,6 @@
-use Rattle.std.proofs.Common.{rules, ◌≡◌, ◌≤◌, ◌<◌, ◌+◌, ◌-◌, ◌++◌, ℕ, suc, List, length, take, drop, get_or, sum, sym, ap, subst, ◌∙◌, arith}
-use Rattle.std.specs.Prelude.{IsTrue}
-use Rattle.std.proofs.lemmas.List.{take-append-drop}
-use Rattle.std.proofs.lemmas.List.Sums.{sum_by-cons}
-use Rattle.columns.specs.Decimals.{are_digits, group_size, groups_size, groups_bytes}
+use Rattle.columns.proofs.Names.{rules, ◌≡◌, ◌≤◌, ◌<◌, ◌+◌, ◌-◌, ◌++◌, ℕ, suc, List, length, take, get_or, sum, sym, ap, subst, ◌∙◌, arith, IsTrue, take-append-drop, sum_by-cons, are_digits, group_size, groups_size}
+use Rattle.std.proofs.Common.{drop}
+use Rattle.columns.specs.Decimals.{groups_bytes}
 use Rattle.columns.proofs.Types.{never}
 use Rattle.columns.proofs.DigitNumbers.{digits_append, digits_take, digits_drop}
 use Rattle.columns.proofs.DigitGroups.{whole_of, end_stays, group_only, same_end}

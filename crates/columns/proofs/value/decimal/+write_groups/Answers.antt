@@ -1,7 +1,5 @@
-use Rattle.std.proofs.Common.{rules, ◌≤◌, ◌<◌, ◌-◌, ℕ, suc, List, length, take, drop, get_or, sum, sym, ap, subst, arith}
-use Rattle.std.specs.Prelude.{IsTrue}
-use Rattle.std.proofs.lemmas.List.Sums.{sum_by-cons}
-use Rattle.columns.specs.Decimals.{are_digits, groups_size}
+use Rattle.columns.proofs.Names.{rules, ◌≤◌, ◌<◌, ◌-◌, ℕ, suc, List, length, take, get_or, sum, sym, ap, subst, arith, IsTrue, sum_by-cons, are_digits, groups_size}
+use Rattle.std.proofs.Common.{drop}
 use Rattle.columns.proofs.DigitNumbers.{digits_take, digits_drop}
 use Rattle.columns.proofs.DigitGroups.{whole_of}
 use Rattle.columns.proofs.value.decimal.+write_groups.Goals as goal

@@ -1,5 +1,4 @@
-use Rattle.std.proofs.Common.{ℕ, ◌<◌, ◌^◌, length, refl, arith, ◌∙◌, sym, subst}
-use Rattle.columns.specs.Decimals.{digits_number}
+use Rattle.columns.proofs.Names.{ℕ, ◌<◌, ◌^◌, length, refl, arith, ◌∙◌, sym, subst, digits_number}
 use Rattle.columns.proofs.DigitNumbers.{number_small, same_digits}
 use Rattle.columns.proofs.value.decimal.read_group.Goals as goal
 

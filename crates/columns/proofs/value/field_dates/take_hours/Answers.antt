@@ -1,6 +1,4 @@
-use Rattle.std.proofs.Common.{◌≡◌, ℕ, ◌<◌, ◌≤◌, ◌⊎◌, inl, inr, List, ◌∷◌, ◌++◌, sym, ap, ◌∙◌, arith}
-use Rattle.std.proofs.lemmas.Bool.{cases_lt}
-use Rattle.columns.specs.Text.{zero_padded}
+use Rattle.columns.proofs.Names.{◌≡◌, ℕ, ◌<◌, ◌≤◌, ◌⊎◌, inl, inr, List, ◌∷◌, ◌++◌, sym, ap, ◌∙◌, arith, cases_lt, zero_padded}
 use Rattle.columns.proofs.ClockTexts.{no_three, three_digits}
 use Rattle.columns.proofs.value.field_dates.take_hours.Goals as goal
 

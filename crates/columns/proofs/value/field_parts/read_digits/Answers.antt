@@ -1,5 +1,4 @@
-use Rattle.std.proofs.Common.{[], length, sym, ap, ◌∙◌, arith, append-nil}
-use Rattle.columns.specs.Text.{zero_padded}
+use Rattle.columns.proofs.Names.{[], length, sym, ap, ◌∙◌, arith, append-nil, zero_padded}
 use Rattle.columns.proofs.value.field_parts.read_digits.Goals as goal
 
 pub returns-in_err-number-clause-only : goal.returns-in_err-number-clause-only

@@ -1,8 +1,4 @@
-use Rattle.std.proofs.Common.{◌≡◌, ◌≢◌, ℕ, suc, ◌^◌, ◌<◌, ◌∷◌, nat_le, nat_lt, refl, ◌∙◌}
-use Rattle.std.specs.Prelude.{IsTrue}
-use Rattle.std.proofs.lemmas.Bool.{ne_eqb}
-use Rattle.columns.specs.Text.{zero_padded}
-use Rattle.columns.specs.Times.{is_fraction, fraction_text}
+use Rattle.columns.proofs.Names.{◌≡◌, ◌≢◌, ℕ, suc, ◌^◌, ◌<◌, ◌∷◌, nat_le, nat_lt, refl, ◌∙◌, IsTrue, ne_eqb, zero_padded, is_fraction, fraction_text}
 use Rattle.columns.proofs.Types.{and_parts, le_of}
 use Rattle.columns.proofs.value.field_parts.read_fraction.Goals as goal
 

@@ -1,5 +1,4 @@
-use Rattle.std.proofs.Common.{ℕ, List, ◌∷◌, ◌++◌, ap, ◌∙◌}
-use Rattle.columns.specs.Times.{clock_text, fraction_text}
+use Rattle.columns.proofs.Names.{ℕ, List, ◌∷◌, ◌++◌, ap, ◌∙◌, clock_text, fraction_text}
 use Rattle.columns.specs.FieldForms.{clock_front}
 use Rattle.columns.proofs.ClockTexts.{clock_split}
 use Rattle.columns.proofs.value.field_parts.read_moment.Goals as goal

@@ -1,12 +1,7 @@
-use Rattle.std.proofs.Common.{◌%◌, to_bits, sym, ap, subst}
-use Rattle.std.specs.Prelude.{IsTrue}
+use Rattle.columns.proofs.Names.{◌%◌, to_bits, sym, ap, subst, IsTrue, binary64, Float, lt-ltb, bytes_cell, of_bits-to_bits, to_bits-lt}
 use Rattle.std.specs.Bool.{passes}
-use Rattle.std.specs.Float.{float_is_finite, binary64}
-use Rattle.std.specs.Float.Ieee.{Float}
-use Rattle.std.proofs.lemmas.Bool.{lt-ltb}
-use Rattle.binlog.specs.Cell.CellValue.{bytes_cell}
+use Rattle.std.specs.Float.{float_is_finite}
 use Rattle.columns.proofs.FloatBits.{a_number, double_below}
-use lib.Ieee.Bits.{of_bits-to_bits, to_bits-lt}
 use Rattle.columns.proofs.value.float.double_bytes.Goals as goal
 
 pub returns-clause-cell : goal.returns-clause-cell

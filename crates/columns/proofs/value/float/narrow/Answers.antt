@@ -1,7 +1,6 @@
-use Rattle.std.proofs.Common.{to_bits, T, sym, ap, subst, ◌∙◌}
+use Rattle.columns.proofs.Names.{to_bits, T, sym, ap, subst, ◌∙◌, binary32, binary64, Float}
 use Rattle.std.specs.Bool.{passes}
-use Rattle.std.specs.Float.{binary32, binary64}
-use Rattle.std.specs.Float.Ieee.{Float, fits}
+use Rattle.std.specs.Float.Ieee.{fits}
 use lib.Ieee.Bits.{of_bits-fits}
 use Rattle.columns.proofs.FloatBits.{a_number}
 use Rattle.columns.proofs.Narrow.{rounded_bits, same_value}

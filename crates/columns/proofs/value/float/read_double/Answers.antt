@@ -1,7 +1,5 @@
-use Rattle.std.proofs.Common.{◌%◌, refl, arith, ap, ◌∙◌, rules}
-use Rattle.std.proofs.lemmas.Bool.{lt-ltb}
+use Rattle.columns.proofs.Names.{◌%◌, refl, arith, ap, ◌∙◌, rules, lt-ltb, bytes_cell}
 use Rattle.binlog.specs.Cell.{cell_value}
-use Rattle.binlog.specs.Cell.CellValue.{bytes_cell}
 use Rattle.std.proofs.lemmas.Float.{not_nan_f64_bits}
 use Rattle.columns.proofs.FloatBits.{double_finite}
 use Rattle.columns.proofs.value.float.read_double.Goals as goal

@@ -1,8 +1,4 @@
-use Rattle.std.proofs.Common.{◌≡◌, ℕ, ◌+◌, ◌^◌, ◌≤◌, length, ap, sym, subst, ◌∙◌, arith}
-use Rattle.std.specs.Prelude.{IsTrue}
-use Rattle.byteorder.specs.Endian.{big_bytes}
-use Rattle.columns.specs.Times.{is_fraction, fraction_size, even_digits}
-use Rattle.columns.specs.TimeRange.{is_time}
+use Rattle.columns.proofs.Names.{◌≡◌, ℕ, ◌+◌, ◌^◌, ◌≤◌, length, ap, sym, subst, ◌∙◌, arith, IsTrue, big_bytes, is_fraction, fraction_size, even_digits, is_time}
 use Rattle.columns.proofs.Types.{and_two}
 use Rattle.columns.proofs.SpanNumbers.{parts_of, number_fits, number_is, all_three}
 use Rattle.columns.proofs.value.time.of_bytes.Goals as goal

@@ -1,8 +1,6 @@
-use Rattle.std.proofs.Common.{◌≡◌, ◌<◌, ◌^◌, ◌||◌, ◌==◌, nat_lt, take, drop, suc, ap, sym, subst, ◌∙◌, arith}
-use Rattle.std.specs.Prelude.{IsTrue}
-use Rattle.byteorder.specs.Endian.{big_bytes}
-use Rattle.columns.specs.Times.{is_fraction, fraction_bytes}
-use Rattle.columns.specs.StampRange.{is_stamp}
+use Rattle.columns.proofs.Names.{◌≡◌, ◌<◌, ◌^◌, ◌||◌, ◌==◌, nat_lt, take, suc, ap, sym, subst, ◌∙◌, arith, IsTrue, big_bytes, is_fraction, is_stamp}
+use Rattle.std.proofs.Common.{drop}
+use Rattle.columns.specs.Times.{fraction_bytes}
 use Rattle.columns.proofs.Types.{and_parts, le_of, some_and}
 use Rattle.columns.proofs.value.timestamp.of_bytes.Goals as goal
 

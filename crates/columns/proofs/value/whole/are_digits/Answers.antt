@@ -1,5 +1,4 @@
-use Rattle.std.proofs.Common.{subst, arith, take, ◌+◌, suc, ℕ, ◌≡◌}
-use Rattle.std.specs.Str.Parse.{AllDigits}
+use Rattle.columns.proofs.Names.{subst, arith, take, ◌+◌, suc, ℕ, ◌≡◌, AllDigits}
 use Rattle.columns.proofs.FieldDigits.{one_digit_more, digit_there}
 use Rattle.columns.proofs.value.whole.are_digits.Goals as goal
 

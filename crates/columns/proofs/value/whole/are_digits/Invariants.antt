@@ -1,5 +1,4 @@
-use Rattle.std.proofs.Common.{take}
-use Rattle.std.specs.Str.Parse.{AllDigits}
+use Rattle.columns.proofs.Names.{take, AllDigits}
 use Rattle.columns.proofs.value.whole.are_digits.Given as goal
 
 abbrev pub invariant-loop-digit : goal.invariant-loop-digit

@@ -4,7 +4,7 @@ use Rattle.std.proofs.lemmas.Bool.{or_from, false_from_ne_true}
 use Rattle.replica.specs.Given.{GivesOne}
 use Rattle.first_copy.specs.Supplied.{supply_of}
 use Rattle.first_copy.specs.declared.copy_fault.CopyFault.TheVariants.{Failed}
-use Rattle.first_copy.proofs.Supplying.{gives_next, not_err}
+use Rattle.first_copy.proofs.Supplies.{gives_next, not_err}
 use Rattle.first_copy.proofs.copied_rows.CopiedRowsDeliveries.next.Goals as goal
 
 pub returns : goal.returns

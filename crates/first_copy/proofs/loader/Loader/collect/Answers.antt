@@ -1,13 +1,9 @@
-use Rattle.std.proofs.Common.{◌+◌, ◌++◌, List, ℕ, sym, subst, ◌∙◌, arith}
-use Rattle.std.specs.Io.KnownBytes.{prepend_known}
+use Rattle.first_copy.proofs.Names.{◌+◌, ◌++◌, List, ℕ, sym, subst, ◌∙◌, arith, prepend_known, err_from_is_err_and, IsRowFault, IsKnownFault}
 use Rattle.sha1.specs.Sha1.{Holds}
 use Rattle.columns.specs.declared.description.Description.{Description}
 use Rattle.first_copy.specs.CopySteps.{IsLineTaken}
-use Rattle.std.proofs.lemmas.Result.{err_from_is_err_and}
-use Rattle.first_copy.specs.RowLines.{IsRowFault}
-use Rattle.first_copy.specs.CopyFaults.{IsKnownFault}
 use Rattle.first_copy.proofs.FaultsAfter.{known_after, if_more, filled_fault, row_after, too_many}
-use Rattle.first_copy.proofs.Collecting.{next_line}
+use Rattle.first_copy.proofs.RowLines.{next_line}
 use Rattle.first_copy.proofs.loader.Loader.collect.Goals as goal
 
 pub loop-size-preserved : goal.loop-size-preserved

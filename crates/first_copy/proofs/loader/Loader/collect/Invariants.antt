@@ -1,6 +1,4 @@
-use Rattle.std.proofs.Common.{◌≡◌, ◌-◌}
-use Rattle.std.specs.Io.KnownBytes.{prepend_known}
-use Rattle.first_copy.specs.CopySteps.{IsGathered}
+use Rattle.first_copy.proofs.Names.{◌≡◌, ◌-◌, prepend_known, IsGathered}
 use Rattle.first_copy.proofs.loader.Loader.collect.Given as goal
 
 abbrev pub invariant-loop-size : goal.invariant-loop-size

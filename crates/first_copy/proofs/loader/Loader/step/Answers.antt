@@ -1,10 +1,6 @@
-use Rattle.std.proofs.Common.{◌≤◌, ℕ, length, subst, arith}
-use Rattle.std.proofs.lemmas.Result.{err_from_is_err_and}
-use Rattle.std.specs.Io.KnownBytes.{prepend_known}
+use Rattle.first_copy.proofs.Names.{◌≤◌, ℕ, length, subst, arith, err_from_is_err_and, prepend_known, IsFinished, IsKnownFault}
 use Rattle.columns.specs.declared.description.Description.{Description}
-use Rattle.first_copy.specs.CopySteps.{IsFinished}
-use Rattle.first_copy.specs.CopyFaults.{IsKnownFault}
-use Rattle.first_copy.proofs.Collecting.{finished_then}
+use Rattle.first_copy.proofs.RowLines.{finished_then}
 use Rattle.first_copy.proofs.FaultsAfter.{too_many, fault_then}
 use Rattle.first_copy.proofs.loader.Loader.step.Goals as goal
 

@@ -1,10 +1,6 @@
-use Rattle.std.proofs.Common.{◌≡◌, List, ap, sym, subst, ◌∙◌}
-use Rattle.std.proofs.lemmas.Result.{err_from_is_err_and}
-use Rattle.binlog.specs.Cell.{CellValue}
+use Rattle.first_copy.proofs.Names.{◌≡◌, List, ap, sym, subst, ◌∙◌, err_from_is_err_and, CellValue, placed_cells, AreFields}
 use Rattle.gather.specs.Image.{HasImage}
 use Rattle.gather.specs.ImageCells.{cell_values}
-use Rattle.first_copy.specs.CellPlaces.{placed_cells}
-use Rattle.first_copy.specs.RowFields.{AreFields}
 use Rattle.first_copy.specs.RowLines.{IsRefusal}
 use Rattle.first_copy.proofs.TablePlaces.{here, fields_here, row_here, wrong_here}
 use Rattle.first_copy.proofs.row_reader.RowReader.read.Goals as goal

@@ -1,5 +1,4 @@
-use Rattle.std.proofs.Common.{◌∷◌, [], ◌++◌, refl, ◌∙◌}
-use Rattle.std.specs.String.{string_bytes}
+use Rattle.first_copy.proofs.Names.{◌∷◌, [], ◌++◌, refl, ◌∙◌, string_bytes}
 use Rattle.gather.specs.Transaction.{insert}
 use Rattle.first_copy.proofs.DefinedAt.{same_item}
 use Rattle.first_copy.proofs.row_taker.RowTaker.take.Goals as goal

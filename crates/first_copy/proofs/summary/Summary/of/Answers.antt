@@ -1,6 +1,5 @@
-use Rattle.std.proofs.Common.{[]}
-use Rattle.std.specs.Io.KnownBytes.{prepend_known}
-use Rattle.first_copy.proofs.Hashed.{made_of}
+use Rattle.first_copy.proofs.Names.{[], prepend_known}
+use Rattle.first_copy.proofs.TextDigests.{made_of}
 use Rattle.first_copy.proofs.summary.Summary.of.Goals as goal
 
 pub returns-clause-source : goal.returns-clause-source

@@ -1,5 +1,4 @@
-use Rattle.std.proofs.Common.{ap, ◌∙◌}
-use Rattle.std.specs.Io.KnownBytes.{prepend_known}
+use Rattle.first_copy.proofs.Names.{ap, ◌∙◌, prepend_known}
 use Rattle.first_copy.proofs.summary.Summary.rows.Goals as goal
 
 pub returns-in-Ok-clause-text : goal.returns-in-Ok-clause-text

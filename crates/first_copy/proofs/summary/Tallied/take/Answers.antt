@@ -1,6 +1,6 @@
 use Rattle.std.specs.Io.KnownBytes.{prepend_known}
 use Rattle.gather.specs.View.{delivery_value}
-use Rattle.first_copy.proofs.Hashed.{one_taken, all_taken, of_none, of_some}
+use Rattle.first_copy.proofs.TextDigests.{one_taken, all_taken, of_none, of_some}
 use Rattle.first_copy.proofs.summary.Tallied.take.Goals as goal
 
 pub returns-then-is_none-clause-hashed : goal.returns-then-is_none-clause-hashed

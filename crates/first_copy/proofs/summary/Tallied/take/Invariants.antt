@@ -1,6 +1,5 @@
-use Rattle.std.proofs.Common.{◌≡◌, false}
-use Rattle.std.specs.Io.KnownBytes.{prepend_known}
-use Rattle.first_copy.proofs.Hashed.{HasTaken}
+use Rattle.first_copy.proofs.Names.{◌≡◌, false, prepend_known}
+use Rattle.first_copy.proofs.TextDigests.{HasTaken}
 use Rattle.first_copy.proofs.summary.Tallied.take.Given as goal
 
 abbrev pub invariant-loop : goal.invariant-loop

@@ -1,6 +1,5 @@
-use Rattle.std.proofs.Common.{◌++◌, ◌∷◌, [], ap, ◌∙◌}
-use Rattle.std.proofs.lemmas.Result.{on_ok_weaker}
-use Rattle.gather.proofs.Packed.{own_image, inserts}
+use Rattle.gather.proofs.Names.{◌++◌, ◌∷◌, [], ap, ◌∙◌, on_ok_weaker}
+use Rattle.gather.proofs.ImagePacking.{own_image, inserts}
 use Rattle.gather.proofs.changes.Changes.insert.Goals as goal
 
 pub add-requires-clause-after : goal.add-requires-clause-after

@@ -1,6 +1,6 @@
 use Rattle.std.proofs.Common.{◌≡◌, length, ap, ◌∙◌, ◌==◌, arith}
 use Rattle.std.specs.Vec.{vec_len}
-use Rattle.gather.proofs.Packed.{count_is}
+use Rattle.gather.proofs.ImagePacking.{count_is}
 use Rattle.gather.proofs.changes.Changes.is_empty.Goals as goal
 
 pub returns : goal.returns

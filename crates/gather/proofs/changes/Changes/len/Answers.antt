@@ -1,5 +1,5 @@
 use Rattle.std.proofs.Common.{length, ap, arith}
-use Rattle.gather.proofs.Packed.{count_is}
+use Rattle.gather.proofs.ImagePacking.{count_is}
 use Rattle.gather.proofs.changes.Changes.len.Goals as goal
 
 pub returns : goal.returns

@@ -1,9 +1,6 @@
-use Rattle.std.proofs.Common.{◌++◌, ◌∷◌, [], ap, sym, ◌∙◌}
-use Rattle.std.proofs.lemmas.Result.{on_ok_weaker}
+use Rattle.gather.proofs.Names.{◌++◌, ◌∷◌, [], ap, sym, ◌∙◌, on_ok_weaker, change_of, table_of}
 use Rattle.binlog.specs.RowsView.{pair_value}
-use Rattle.gather.specs.Transaction.{change_of}
-use Rattle.gather.specs.OpenTransaction.{table_of}
-use Rattle.gather.proofs.Packed.{not_err}
+use Rattle.gather.proofs.ImagePacking.{not_err}
 use Rattle.gather.proofs.changes.Changes.push.Goals as goal
 
 pub invariant_of-self-else-is_err : goal.invariant_of-self-else-is_err

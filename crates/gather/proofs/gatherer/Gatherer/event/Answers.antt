@@ -1,5 +1,4 @@
-use Rattle.std.proofs.Common.{refl}
-use Rattle.std.proofs.lemmas.Result.{err_from_is_err_and}
+use Rattle.gather.proofs.Names.{refl, err_from_is_err_and}
 use Rattle.gather.proofs.gatherer.Gatherer.event.Goals as goal
 
 pub returns-in_err-delivery-clause-fault : goal.returns-in_err-delivery-clause-fault

@@ -1,10 +1,7 @@
-use Rattle.std.proofs.Common.{ap, sym, ◌∙◌, refl, ◌||◌}
-use Rattle.binlog.specs.RowsView.{rows_value}
-use Rattle.binlog.specs.TableView.{table_value}
-use Rattle.binlog.specs.Event.{format, begin, commit, table_map, other_map, rows, xid}
+use Rattle.gather.proofs.Names.{ap, sym, ◌∙◌, refl, ◌||◌, rows_value, table_value, format, commit, table_map, other_map, xid, has_format}
+use Rattle.binlog.specs.Event.{begin, rows}
 use Rattle.binlog.specs.EventView.{event_value}
-use Rattle.gather.specs.Fault.{has_format}
-use Rattle.gather.proofs.Stepping.{step_neutral, step_mark, step_gtid, continues, takes, refuses, keeps, formatted_from, false_or, true_or, rotates_or_stops}
+use Rattle.gather.proofs.OneMoreEvent.{step_neutral, step_mark, step_gtid, continues, takes, refuses, keeps, formatted_from, false_or, true_or, rotates_or_stops}
 use Rattle.gather.proofs.gatherer.Gatherer.take.Goals as goal
 
 pub returns-in-Neutral-clause-taken : goal.returns-in-Neutral-clause-taken

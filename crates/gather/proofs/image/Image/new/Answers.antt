@@ -1,6 +1,4 @@
-use Rattle.std.proofs.Common.{ap, ◌∙◌, ◌++◌}
-use Rattle.gather.specs.Image.{image}
-use Rattle.gather.specs.ImageCells.{cell_values}
+use Rattle.gather.proofs.Names.{ap, ◌∙◌, ◌++◌, image, cell_values}
 use Rattle.gather.proofs.WholeImages.{is_written}
 use Rattle.gather.proofs.image.Image.new.Goals as goal
 

@@ -1,7 +1,5 @@
-use Rattle.std.proofs.Common.{ap, ◌∙◌}
-use Rattle.std.proofs.lemmas.List.{take_rest}
-use Rattle.gather.specs.ImageCells.{cells_in}
-use Rattle.gather.proofs.Packed.{own_image}
+use Rattle.gather.proofs.Names.{ap, ◌∙◌, take_rest, cells_in}
+use Rattle.gather.proofs.ImagePacking.{own_image}
 use Rattle.gather.proofs.image.ImageRef.cells.Goals as goal
 
 pub returns : goal.returns

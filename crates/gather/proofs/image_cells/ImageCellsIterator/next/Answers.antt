@@ -1,8 +1,5 @@
-use Rattle.std.proofs.Common.{◌∷◌, sym, ap, ◌∙◌}
-use Rattle.std.proofs.lemmas.List.{take_rest}
-use Rattle.binlog.specs.Cell.{cell_value}
+use Rattle.gather.proofs.Names.{◌∷◌, sym, ap, ◌∙◌, take_rest, cell_value, cells_in}
 use Rattle.binlog.proofs.RowCells.{fewer}
-use Rattle.gather.specs.ImageCells.{cells_in}
 use Rattle.gather.proofs.CellImages.{first_cell}
 use Rattle.gather.proofs.image_cells.ImageCellsIterator.next.Goals as goal
 

@@ -1,6 +1,4 @@
-use Rattle.std.proofs.Common.{[], Some, refl}
-use Rattle.binlog.specs.Event.{table_map}
-use Rattle.binlog.specs.TableView.{table_value}
+use Rattle.gather.proofs.Names.{[], Some, refl, table_map, table_value}
 use Rattle.gather.proofs.Maps.{maps_more, no_changes, map_says, copied}
 use Rattle.gather.proofs.open_transaction.OpenTransaction.take_map.Goals as goal
 

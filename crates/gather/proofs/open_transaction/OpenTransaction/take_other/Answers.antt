@@ -1,6 +1,4 @@
-use Rattle.std.proofs.Common.{[], None, refl}
-use Rattle.std.proofs.lemmas.Result.{err_from_is_err_and}
-use Rattle.binlog.specs.Event.{other_map}
+use Rattle.gather.proofs.Names.{[], None, refl, err_from_is_err_and, other_map}
 use Rattle.gather.proofs.Maps.{maps_more, no_changes, other_says, unknown}
 use Rattle.gather.proofs.open_transaction.OpenTransaction.take_other.Goals as goal
 

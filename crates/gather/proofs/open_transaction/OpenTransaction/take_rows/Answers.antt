@@ -1,6 +1,4 @@
-use Rattle.std.proofs.Common.{Some, ap, sym, ◌∙◌}
-use Rattle.std.proofs.lemmas.Result.{on_ok_weaker}
-use Rattle.binlog.specs.RowsView.{rows_value}
+use Rattle.gather.proofs.Names.{Some, ap, sym, ◌∙◌, on_ok_weaker, rows_value}
 use Rattle.gather.proofs.Maps.{reported, keeps_other, adds_rows, maps_stay}
 use Rattle.gather.proofs.open_transaction.OpenTransaction.take_rows.Goals as goal
 

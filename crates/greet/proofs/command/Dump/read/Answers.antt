@@ -1,10 +1,7 @@
-use Rattle.std.proofs.Common.{◌≡◌, ◌-◌, ◌∷◌, length, get_or, take, drop, sym, ap, ◌∙◌, subst, refl, arith}
-use Rattle.std.specs.Prelude.{IfOk, IfErr}
-use Rattle.std.proofs.lemmas.Bool.{ne_eqb}
-use Rattle.greet.specs.Message.{IsDump}
+use Rattle.greet.proofs.Names.{◌≡◌, ◌-◌, ◌∷◌, length, get_or, take, sym, ap, ◌∙◌, subst, refl, arith, IfOk, IfErr, ne_eqb, IsDump, IsBytes, IsBytes-rest, first_and_rest, begun_by}
+use Rattle.std.proofs.Common.{drop}
 use Rattle.greet.specs.Refusal.{dump_refusal}
 use Rattle.greet.specs.View.{dump_value, Refuses}
-use Rattle.wire.proofs.Cuts.{IsBytes, IsBytes-rest, first_and_rest, begun_by}
 use Rattle.greet.proofs.Dumps.{nothing, found, refused, answered}
 use Rattle.greet.proofs.command.Dump.read.Goals as goal
 

@@ -1,7 +1,5 @@
-use Rattle.std.proofs.Common.{◌≡◌, ℕ, ◌+◌, ◌-◌, ◌≤◌, List, length, take, drop, ap, ◌∙◌, length-drop, arith}
-use Rattle.std.proofs.lemmas.List.{take_rest}
-use Rattle.byteorder.specs.Endian.{little_number}
-use Rattle.greet.specs.Refusal.{dump_name_size, dump_set_size}
+use Rattle.greet.proofs.Names.{◌≡◌, ℕ, ◌+◌, ◌-◌, ◌≤◌, List, length, take, ap, ◌∙◌, arith, take_rest, little_number, dump_name_size, dump_set_size}
+use Rattle.std.proofs.Common.{drop, length-drop}
 use Rattle.greet.proofs.command.Dump.read_fields.Goals as goal
 
 whole_is : (body : List ℕ) (name set n s : ℕ) → name ≡ n → set ≡ s → 22 + name ≤ length body → length (take (length body - (22 + name)) (drop (22 + name) body)) ≡ set → length body ≡ 22 + n + s

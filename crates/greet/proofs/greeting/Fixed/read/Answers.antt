@@ -1,7 +1,5 @@
-use Rattle.std.proofs.Common.{◌≡◌, ◌+◌, ◌*◌, ◌^◌, ap, ◌∙◌, drop, refl, arith}
-use Rattle.std.proofs.lemmas.Bool.{le-ltb, ne_eqb}
-use Rattle.std.proofs.lemmas.List.{take_rest}
-use Rattle.byteorder.specs.Endian.{little_number}
+use Rattle.greet.proofs.Names.{◌≡◌, ◌+◌, ◌*◌, ◌^◌, ap, ◌∙◌, refl, arith, le-ltb, ne_eqb, take_rest, little_number}
+use Rattle.std.proofs.Common.{drop}
 use Rattle.greet.specs.Refusal.{fields_refusal}
 use Rattle.greet.proofs.greeting.Fixed.read.Goals as goal
 

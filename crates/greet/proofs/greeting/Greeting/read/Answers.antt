@@ -1,11 +1,6 @@
-use Rattle.std.proofs.Common.{◌≡◌, get_or, sym, ap, ◌∙◌, subst, refl, arith, inl, inr}
-use Rattle.std.proofs.lemmas.Bool.{ne_eqb}
-use Rattle.std.specs.Prelude.{IfOk, IfErr}
-use Rattle.greet.specs.Message.{IsGreeting}
+use Rattle.greet.proofs.Names.{◌≡◌, get_or, sym, ap, ◌∙◌, subst, refl, arith, inl, inr, ne_eqb, IfOk, IfErr, IsGreeting, HasGreeting, first_and_rest, begun_by}
 use Rattle.greet.specs.Refusal.{greeting_refusal}
-use Rattle.greet.specs.Complete.{HasGreeting}
 use Rattle.greet.specs.View.{greeting_value, Refuses}
-use Rattle.wire.proofs.Cuts.{first_and_rest, begun_by}
 use Rattle.greet.proofs.Greetings.{nothing, not_refused, one_value}
 use Rattle.greet.proofs.Readers.{answered}
 use Rattle.greet.proofs.ErrBytes.{some_err}

@@ -1,7 +1,5 @@
-use Rattle.std.proofs.Common.{◌≡◌, ◌++◌, ◌∷◌, ◌/◌, ◌^◌, [], get_or, take, drop, replicate, sym, subst, ◌∙◌}
-use Rattle.std.specs.Prelude.{OnOk}
-use Rattle.byteorder.specs.Endian.{little_bytes}
-use Rattle.greet.specs.Message.{plugin_name}
+use Rattle.greet.proofs.Names.{◌≡◌, ◌++◌, ◌∷◌, ◌^◌, [], get_or, take, sym, subst, ◌∙◌, OnOk, little_bytes, plugin_name}
+use Rattle.std.proofs.Common.{◌/◌, drop, replicate}
 use Rattle.greet.proofs.Cuts.{right_10}
 use Rattle.greet.proofs.greeting.Greeting.write.Goals as goal
 

@@ -1,10 +1,7 @@
-use Rattle.std.proofs.Common.{◌≡◌, get_or, sym, ap, subst, arith}
-use Rattle.std.proofs.lemmas.Result.{err_from_is_err_and}
+use Rattle.greet.proofs.Names.{◌≡◌, get_or, sym, ap, subst, arith, err_from_is_err_and, IsSwitch, begun_by}
 use Rattle.greet.specs.declared.reply.AuthReply.TheVariants.{Switch}
-use Rattle.greet.specs.Message.{IsSwitch}
 use Rattle.greet.specs.Refusal.{reply_refusal, ok_refusal}
 use Rattle.greet.specs.View.{Refuses}
-use Rattle.wire.proofs.Cuts.{begun_by}
 use Rattle.greet.proofs.Readers.{memory_alone}
 use Rattle.greet.proofs.Replies.{reply_nothing, as_switch, same_refusal, switch_not_refused, one_switch}
 use Rattle.greet.proofs.reply.AuthReply.read.Goals as goal

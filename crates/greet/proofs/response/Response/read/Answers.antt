@@ -1,5 +1,4 @@
-use Rattle.std.proofs.Common.{sym, subst}
-use Rattle.std.proofs.lemmas.Result.{err_from_is_err_and}
+use Rattle.greet.proofs.Names.{sym, subst, err_from_is_err_and}
 use Rattle.greet.specs.Message.{IsResponse}
 use Rattle.greet.specs.View.{Refuses}
 use Rattle.greet.proofs.Readers.{memory_alone}

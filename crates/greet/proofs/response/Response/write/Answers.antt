@@ -1,6 +1,4 @@
-use Rattle.std.proofs.Common.{◌≡◌, ◌++◌, ◌∷◌, [], length, sym, ap, subst, ◌∙◌}
-use Rattle.std.specs.Prelude.{OnOk}
-use Rattle.greet.specs.Message.{response_lead, plugin_name}
+use Rattle.greet.proofs.Names.{◌≡◌, ◌++◌, ◌∷◌, [], length, sym, ap, subst, ◌∙◌, OnOk, response_lead, plugin_name}
 use Rattle.wire.proofs.Cuts.{right_5}
 use Rattle.greet.proofs.response.Response.write.Goals as goal
 

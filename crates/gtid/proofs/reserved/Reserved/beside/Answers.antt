@@ -1,5 +1,4 @@
-use Rattle.std.proofs.Common.{◌≡◌, ap, refl, subst}
-use Rattle.gtid.specs.Identifier.{id}
+use Rattle.gtid.proofs.Names.{◌≡◌, ap, refl, subst, id}
 use Rattle.gtid.specs.Beside.{Joins}
 use Rattle.gtid.proofs.Around.{joins, beside_lawful}
 use Rattle.gtid.proofs.reserved.Reserved.beside.Goals as goal

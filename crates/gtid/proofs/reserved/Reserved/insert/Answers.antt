@@ -1,5 +1,4 @@
-use Rattle.std.proofs.Common.{◌≡◌, ap, sym}
-use Rattle.gtid.specs.Identifier.{id}
+use Rattle.gtid.proofs.Names.{◌≡◌, ap, sym, id}
 use Rattle.gtid.proofs.Sets.{inserted}
 use Rattle.gtid.proofs.reserved.Reserved.insert.Goals as goal
 

@@ -1,6 +1,4 @@
-use Rattle.std.proofs.Common.{ap, ◌∙◌}
-use Rattle.gtid.specs.Identifier.{id}
-use Rattle.gtid.specs.Group.{is_listed}
+use Rattle.gtid.proofs.Names.{ap, ◌∙◌, id, is_listed}
 use Rattle.gtid.proofs.Sets.{contained}
 use Rattle.gtid.proofs.set.GtidSet.contains.Goals as goal
 

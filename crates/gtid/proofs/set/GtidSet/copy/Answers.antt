@@ -1,6 +1,6 @@
 use Rattle.std.proofs.Common.{ap, sym, ◌∙◌, arith}
 use Rattle.gtid.specs.Group.{ids_of}
-use Rattle.gtid.proofs.Merged.{ascend_nil}
+use Rattle.gtid.proofs.GroupMerge.{ascend_nil}
 use Rattle.gtid.proofs.Sets.{is_copy, is_empty, not_long}
 use Rattle.gtid.proofs.set.GtidSet.copy.Goals as goal
 

@@ -1,6 +1,5 @@
-use Rattle.std.proofs.Common.{None, refl, arith}
-use Rattle.std.proofs.lemmas.Result.{err_from_is_err_and}
-use Rattle.gtid.proofs.Decoded.{ascend_blocks, found_encoding, only_found, only_fault}
+use Rattle.gtid.proofs.Names.{None, refl, arith, err_from_is_err_and}
+use Rattle.gtid.proofs.GroupSets.{ascend_blocks, found_encoding, only_found, only_fault}
 use Rattle.gtid.proofs.set.GtidSet.decode.Goals as goal
 
 pub invariant_of-result : goal.invariant_of-result

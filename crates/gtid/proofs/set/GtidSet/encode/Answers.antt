@@ -1,6 +1,6 @@
 use Rattle.std.specs.Prelude.{vec_len, vec_capacity}
 use Rattle.std.proofs.Common.{arith}
-use Rattle.gtid.proofs.Grouped.{appends_on_ok, lacks_on_err}
+use Rattle.gtid.proofs.SpansBySource.{appends_on_ok, lacks_on_err}
 use Rattle.gtid.proofs.set.GtidSet.encode.Goals as goal
 
 pub returns-else-is_err-clause-ok : goal.returns-else-is_err-clause-ok

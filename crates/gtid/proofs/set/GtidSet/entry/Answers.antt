@@ -1,7 +1,5 @@
-use Rattle.std.proofs.Common.{◌∙◌, Bool, true, false, Option, Some, None, Result, Ok, Err, ap, sym, inl, inr}
-use Rattle.std.proofs.lemmas.Bool.{cases_Bool, true≢false, false≢true}
-use Rattle.gtid.specs.Identifier.{id}
-use Rattle.gtid.specs.Group.{is_listed}
+use Rattle.gtid.proofs.Names.{◌∙◌, Bool, true, false, Option, Some, None, Result, Ok, Err, ap, sym, inl, inr, true≢false, false≢true, id, is_listed}
+use Rattle.std.proofs.lemmas.Bool.{cases_Bool}
 use Rattle.gtid.proofs.Sets.{contained, same_ids}
 use Rattle.gtid.proofs.set.GtidSet.entry.Goals as goal
 

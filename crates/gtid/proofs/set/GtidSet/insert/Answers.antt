@@ -1,7 +1,5 @@
-use Rattle.std.proofs.Common.{not, ap, ◌∙◌}
-use Rattle.std.proofs.lemmas.Result.{on_err_weaker}
-use Rattle.gtid.specs.Identifier.{id}
-use Rattle.gtid.proofs.Found.{if_ok}
+use Rattle.gtid.proofs.Names.{not, ap, ◌∙◌, on_err_weaker, id}
+use Rattle.gtid.proofs.GroupLookUp.{if_ok}
 use Rattle.gtid.proofs.Sets.{contained, inserted, same_ids}
 use Rattle.gtid.proofs.set.GtidSet.insert.Goals as goal
 

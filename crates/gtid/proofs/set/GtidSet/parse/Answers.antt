@@ -1,5 +1,5 @@
 use Rattle.std.proofs.lemmas.Result.{err_from_is_err_and}
-use Rattle.gtid.proofs.Parsed.{is_read, only_read, written_fault, text_fault, items_of_spans}
+use Rattle.gtid.proofs.TextMeaning.{is_read, only_read, written_fault, text_fault, items_of_spans}
 use Rattle.gtid.proofs.set.GtidSet.parse.Goals as goal
 
 pub returns-in-Err-clause-fault : goal.returns-in-Err-clause-fault

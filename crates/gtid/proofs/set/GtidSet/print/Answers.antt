@@ -1,7 +1,7 @@
 use Rattle.std.specs.String.{string_bytes, string_len, string_capacity}
 use Rattle.std.proofs.lemmas.Result.{on_err_weaker}
-use Rattle.gtid.proofs.Found.{on_ok_both}
-use Rattle.gtid.proofs.Printed.{appends_text, lacks_text}
+use Rattle.gtid.proofs.GroupLookUp.{on_ok_both}
+use Rattle.gtid.proofs.AsciiText.{appends_text, lacks_text}
 use Rattle.gtid.proofs.set.GtidSet.print.Goals as goal
 
 pub returns-else-is_err-clause-ok : goal.returns-else-is_err-clause-ok

@@ -1,6 +1,4 @@
-use Rattle.std.proofs.Common.{ap, sym, subst, refl, ◌∙◌, inl, inr, arith}
-use Rattle.std.proofs.lemmas.Bool.{false≢true}
-use Rattle.std.specs.Bool.{IsTrue}
+use Rattle.gtid.proofs.Names.{ap, sym, subst, refl, ◌∙◌, inl, inr, arith, false≢true, IsTrue}
 use Rattle.gtid.specs.Group.{ids_of}
 use Rattle.gtid.proofs.Sets.{is_difference, is_empty, not_long, no_groups, ascend_none, difference_none, difference_subset, difference_apart, apart_listed, is_subset_is}
 use Rattle.gtid.proofs.set.GtidSet.subtract.Goals as goal

@@ -1,5 +1,4 @@
-use Rattle.std.proofs.Common.{ap, sym, ◌∙◌, arith}
-use Rattle.std.proofs.lemmas.Bool.{false≢true}
+use Rattle.gtid.proofs.Names.{ap, sym, ◌∙◌, arith, false≢true}
 use Rattle.gtid.specs.Group.{ids_of}
 use Rattle.gtid.proofs.Sets.{is_union, is_empty, not_long, union_none, union_subset, is_subset_is}
 use Rattle.gtid.proofs.set.GtidSet.union.Goals as goal

@@ -1,5 +1,5 @@
 use Rattle.std.proofs.Common.{rules}
-use Rattle.replica.proofs.Taking.{pops}
+use Rattle.replica.proofs.InOrder.{pops}
 use Rattle.replica.proofs.deliveries.VecDequeDeliveryDeliveries.next.Goals as goal
 
 pub returns : goal.returns

@@ -1,8 +1,4 @@
-use Rattle.std.proofs.Common.{◌≡◌, ◌+◌, ◌++◌, ℕ, [], take, length, sym, ap, ◌∙◌, Some, Err, refl, Vec, Global, ◌<◌, ◌^◌, arith}
-use Rattle.std.proofs.lemmas.List.{length-append}
-use Rattle.wire.specs.Payload.{ReaderState, IsWholePayload}
-use Rattle.replica.specs.declared.end.Reason.{Reason}
-use Rattle.replica.specs.declared.session.Session.{Session}
+use Rattle.replica.proofs.Names.{◌≡◌, ◌+◌, ◌++◌, ℕ, [], take, length, sym, ap, ◌∙◌, Some, Err, refl, Vec, Global, ◌<◌, ◌^◌, arith, length-append, ReaderState, IsWholePayload, Reason, Session}
 use Rattle.replica.proofs.Advance.{over-append, over-fault, over-unfinished, over-payload, none_after, at_some, at_none}
 use Rattle.replica.proofs.Keeps.{keeps_same}
 use Rattle.replica.proofs.session.Session.advance.Goals as goal

@@ -1,8 +1,7 @@
-use Rattle.std.proofs.Common.{rules, ◌≡◌, ◌+◌, ◌≤◌, ℕ, List, None, length, sym, ◌∙◌, subst}
+use Rattle.replica.proofs.Names.{rules, ◌≡◌, ◌+◌, ◌≤◌, ℕ, List, None, length, sym, ◌∙◌, subst, room_of}
 use Rattle.std.proofs.lemmas.List.{take_rest}
-use Rattle.replica.specs.Standing.{room_of}
 use Rattle.replica.proofs.Advance.{over-append}
-use Rattle.replica.proofs.Fed.{Fed, fed_none, fed_more, fed_all, room_more}
+use Rattle.replica.proofs.BytesSoFar.{Fed, fed_none, fed_more, fed_all, room_more}
 use Rattle.replica.proofs.Keeps.{keeps_same, keeps_then}
 use Rattle.replica.proofs.session.Session.feed_observed.Goals as goal
 

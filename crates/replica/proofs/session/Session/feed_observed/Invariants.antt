@@ -1,8 +1,5 @@
-use Rattle.std.proofs.Common.{◌≡◌, ◌+◌, ◌≤◌, length, None, []}
-use Rattle.replica.specs.Noted.{MayEnd}
-use Rattle.replica.specs.Standing.{end_of, room_of}
-use Rattle.replica.proofs.Fed.{Fed}
-use Rattle.replica.specs.Keeps.{KeepsObserved}
+use Rattle.replica.proofs.Names.{◌≡◌, ◌+◌, ◌≤◌, length, None, [], MayEnd, end_of, room_of, KeepsObserved}
+use Rattle.replica.proofs.BytesSoFar.{Fed}
 use Rattle.replica.proofs.session.Session.feed_observed.Given as goal
 
 abbrev pub invariant-loop-used : goal.invariant-loop-used

@@ -1,8 +1,5 @@
-use Rattle.std.proofs.Common.{subst, ap, unwrap_or}
-use Rattle.replica.specs.declared.end.Reason.TheVariants.{EndOfInput}
-use Rattle.replica.specs.declared.end.Ended.{Ended}
-use Rattle.replica.specs.Conn.{Conn, BreaksStore}
-use Rattle.replica.proofs.Stood.{conn_of, store_of}
+use Rattle.replica.proofs.Names.{subst, ap, unwrap_or, EndOfInput, Ended, Conn, BreaksStore}
+use Rattle.replica.proofs.Positions.{conn_of, store_of}
 use Rattle.replica.proofs.session.Session.finish.Goals as goal
 
 pub returns-in-Some-clause-conn : goal.returns-in-Some-clause-conn

@@ -1,7 +1,6 @@
-use Rattle.std.proofs.Common.{ap, ◌∙◌}
-use Rattle.wire.specs.Payload.{ReaderState}
+use Rattle.replica.proofs.Names.{ap, ◌∙◌, ReaderState}
 use Rattle.replica.specs.Standing.{Stands}
-use Rattle.replica.proofs.Stood.{begun}
+use Rattle.replica.proofs.Positions.{begun}
 use Rattle.replica.proofs.session.Session.new.Goals as goal
 
 pub returns-clause-stands : goal.returns-clause-stands

@@ -1,12 +1,8 @@
-use Rattle.std.proofs.Common.{◌≡◌, ◌+◌, ◌^◌, ◌≤◌, ◌++◌, sym, ap, subst, ◌∙◌, length, arith}
-use Rattle.wire.specs.Packet.{packing_length}
+use Rattle.replica.proofs.Names.{◌≡◌, ◌+◌, ◌^◌, ◌≤◌, ◌++◌, sym, ap, subst, ◌∙◌, length, arith, packing_length, Wire, Ended, HasEnded, end_of}
 use Rattle.wire.specs.declared.fault.WireFault.TheVariants as wire
-use Rattle.replica.specs.declared.end.Reason.TheVariants.{Wire}
-use Rattle.replica.specs.declared.end.Ended.{Ended}
-use Rattle.replica.specs.Standing.{HasEnded, end_of}
 use Rattle.replica.proofs.PayloadSteps.{rest_length, too_far, stands_ended, room_left}
-use Rattle.replica.proofs.Dumping.{over_same}
-use Rattle.replica.proofs.Observed.{own_may}
+use Rattle.replica.proofs.DumpSteps.{over_same}
+use Rattle.replica.proofs.ObserverEnds.{own_may}
 use Rattle.replica.proofs.Keeps.{keeps_same}
 use Rattle.replica.proofs.session.Session.take.Goals as goal
 

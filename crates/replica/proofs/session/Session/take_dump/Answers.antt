@@ -1,8 +1,7 @@
-use Rattle.std.proofs.Common.{◌≡◌, ◌+◌, ◌^◌, ◌<◌, ◌++◌, if◌then◌else◌, refl, sym, ap, subst, ◌∙◌, length, arith}
-use Rattle.replica.specs.declared.session.Session.{Session}
-use Rattle.replica.specs.Standing.{GoesOn, due_of}
+use Rattle.replica.proofs.Names.{◌≡◌, ◌+◌, ◌^◌, ◌<◌, ◌++◌, refl, sym, ap, subst, ◌∙◌, length, arith, Session, GoesOn, due_of}
+use Rattle.std.proofs.Common.{if◌then◌else◌}
 use Rattle.replica.proofs.PayloadSteps.{rest_length}
-use Rattle.replica.proofs.Dumping.{event_goes_on, moved, dump_goes_on, dump_until, dump_ends}
+use Rattle.replica.proofs.DumpSteps.{event_goes_on, moved, dump_goes_on, dump_until, dump_ends}
 use Rattle.replica.proofs.session.Session.take_dump.Goals as goal
 
 pub returns-then-not-applied-clause-takes : goal.returns-then-not-applied-clause-takes

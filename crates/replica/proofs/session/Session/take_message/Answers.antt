@@ -1,10 +1,4 @@
-use Rattle.std.proofs.Common.{◌≡◌, ◌+◌, ◌++◌, unwrap_or, refl, sym, ap, subst, ◌∙◌, length, arith}
-use Rattle.replica.specs.Stream.{IsInDump, next_due}
-use Rattle.replica.specs.Standing.{due_at, due_of, end_of, HasEnded}
-use Rattle.replica.specs.declared.end.Ended.{Ended}
-use Rattle.replica.specs.declared.end.Reason.TheVariants.{EndOfInput}
-use Rattle.replica.specs.Conn.{IsOwn}
-use Rattle.replica.specs.PayloadStep.{IsAnswered, EndsAt}
+use Rattle.replica.proofs.Names.{◌≡◌, ◌+◌, ◌++◌, unwrap_or, refl, sym, ap, subst, ◌∙◌, length, arith, IsInDump, next_due, due_at, due_of, end_of, HasEnded, Ended, EndOfInput, IsOwn, IsAnswered, EndsAt}
 use Rattle.replica.proofs.PayloadSteps.{stands_going, stands_ended, nothing_taken, message_goes_on, message_ends_it, rest_length, not_dump, some-none}
 use Rattle.replica.proofs.session.Session.take_message.Goals as goal
 

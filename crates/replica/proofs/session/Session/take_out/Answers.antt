@@ -1,7 +1,6 @@
-use Rattle.std.proofs.Common.{◌++◌, List, ℕ, sym, ap, ◌∙◌, subst}
-use Rattle.replica.specs.Sent.{SentFor}
-use Rattle.replica.specs.Standing.{Stands, end_of}
-use Rattle.replica.proofs.Stood.{sent_of, stands-out}
+use Rattle.replica.proofs.Names.{◌++◌, List, ℕ, sym, ap, ◌∙◌, subst, SentFor, end_of}
+use Rattle.replica.specs.Standing.{Stands}
+use Rattle.replica.proofs.Positions.{sent_of, stands-out}
 use Rattle.replica.proofs.session.Session.take_out.Goals as goal
 
 pub returns-clause-stands : goal.returns-clause-stands

@@ -1,9 +1,6 @@
-use Rattle.std.proofs.Common.{[], ◌∷◌, Option, subst}
-use Rattle.gtid.specs.Identifier.{Ids}
-use Rattle.replica.specs.Missing.{is_over}
-use Rattle.gather.specs.View.{delivery_value}
-use Rattle.replica.specs.Noted.{StillWaits, after}
-use Rattle.replica.proofs.Missing.{apart_noted, either_stays, after_none}
+use Rattle.replica.proofs.Names.{[], ◌∷◌, Option, subst, Ids, is_over, delivery_value, StillWaits}
+use Rattle.replica.specs.Noted.{after}
+use Rattle.replica.proofs.WaitSets.{apart_noted, either_stays, after_none}
 use Rattle.replica.proofs.until.UntilObserver.after_apply.Goals as goal
 
 pub returns : goal.returns
@@ -20,4 +17,5 @@ returns g c =
             either_stays (is_over was) (g.W.Observer.account c.args.self.now.inner).has_stopped (is_over c.left_after.result) (g.W.Observer.account c.after_apply.new.self).has_stopped
             (after_none was d o c.left_after.result left) c.after_apply.ensures.noticed.stays;
       };
+      seen = c.after_apply.ensures.seen;
     }

@@ -1,7 +1,6 @@
-use Rattle.std.proofs.Common.{[], ◌∷◌, Option, subst}
-use Rattle.gtid.specs.Identifier.{Ids}
-use Rattle.replica.specs.Missing.{is_over, IsLeftOf}
-use Rattle.replica.proofs.Missing.{apart_noted, left_opened, either_stays, left_none}
+use Rattle.replica.proofs.Names.{[], ◌∷◌, Option, subst, Ids, is_over}
+use Rattle.replica.specs.Missing.{IsLeftOf}
+use Rattle.replica.proofs.WaitSets.{apart_noted, left_opened, either_stays, left_none}
 use Rattle.replica.specs.Noted.{opened}
 use Rattle.replica.proofs.until.UntilObserver.opened.Goals as goal
 
@@ -18,4 +17,5 @@ returns g c =
             either_stays (is_over was) (g.W.Observer.account c.args.self.now.inner).has_stopped (is_over c.without.result) (g.W.Observer.account c.opened.new.self).has_stopped
             (left_none was taken c.without.result left) c.opened.ensures.noticed.stays;
       };
+      seen = c.opened.ensures.seen;
     }

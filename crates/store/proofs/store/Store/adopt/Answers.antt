@@ -1,12 +1,11 @@
-use Rattle.std.proofs.Common.{inl, inr, refl, sym, ap, subst, ◌∙◌}
+use Rattle.store.proofs.Names.{inl, inr, refl, sym, ap, subst, ◌∙◌, IsAtRest, AreOf}
 use Rattle.std.specs.FinSet as set
 use Rattle.sqlite.specs.Held.{state}
-use Rattle.store.specs.Apply.{IsAtRest, AreOf}
 use Rattle.store.specs.Changes.{adopted}
 use Rattle.store.specs.Store.{Holds}
-use Rattle.store.proofs.Spared.{beside_same, beside_unchanged}
-use Rattle.store.proofs.Applying.{rest_same, stays, spares, spares_either}
-use Rattle.store.proofs.Adopted.{nothing_new, adopted_is}
+use Rattle.store.proofs.BesideStays.{beside_same, beside_unchanged}
+use Rattle.store.proofs.ExecutedInMemory.{rest_same, stays, spares, spares_either}
+use Rattle.store.proofs.ExecutedSets.{nothing_new, adopted_is}
 use Rattle.store.proofs.store.Store.adopt.Goals as goal
 
 pub returns-then-is_subset-clause-adopts : goal.returns-then-is_subset-clause-adopts

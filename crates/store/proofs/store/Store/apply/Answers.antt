@@ -1,10 +1,8 @@
-use Rattle.std.proofs.Common.{◌≡◌, true, false, ap, refl, sym, subst, ◌∙◌}
+use Rattle.store.proofs.Names.{◌≡◌, true, false, ap, refl, sym, subst, ◌∙◌, delivery_value, is_executed}
 use Rattle.std.specs.FinSet as set
 use Rattle.gtid.specs.Identifier.{id}
-use Rattle.gather.specs.View.{delivery_value}
-use Rattle.store.specs.Changes.{is_executed}
-use Rattle.store.proofs.Applying.{applied, applied_shut, left_whole, same_schema, same_store, lies_beside, stays_now, spares, spares_moved}
-use Rattle.store.proofs.Spared.{beside_unchanged}
+use Rattle.store.proofs.ExecutedInMemory.{applied, applied_shut, left_whole, same_schema, same_store, lies_beside, stays_now, spares, spares_moved}
+use Rattle.store.proofs.BesideStays.{beside_unchanged}
 use Rattle.store.proofs.store.Store.apply.Goals as goal
 
 pub returns-clause-applies : goal.returns-clause-applies

@@ -1,8 +1,7 @@
-use Rattle.std.proofs.Common.{◌∙◌, sym}
-use Rattle.std.proofs.lemmas.Bool.{false≢true}
+use Rattle.store.proofs.Names.{◌∙◌, sym, false≢true}
 use Rattle.sqlite.specs.Held.{state}
-use Rattle.store.proofs.Applying.{spares_kept}
-use Rattle.store.proofs.Counted.{row_count, rest_unchanged, rest_read}
+use Rattle.store.proofs.ExecutedInMemory.{spares_kept}
+use Rattle.store.proofs.PlainQueries.{row_count, rest_unchanged, rest_read}
 use Rattle.store.proofs.store.Store.count.Goals as goal
 
 pub returns-in-Ok-clause-counts : goal.returns-in-Ok-clause-counts

@@ -1,7 +1,7 @@
 use Rattle.std.proofs.Common.{refl}
 use Rattle.sqlite.specs.Held.{state}
-use Rattle.store.proofs.Applying.{spares_kept}
-use Rattle.store.proofs.Handing.{held_listed, kept_now}
+use Rattle.store.proofs.ExecutedInMemory.{spares_kept}
+use Rattle.store.proofs.RowVisits.{held_listed, kept_now}
 use Rattle.store.proofs.store.Store.list.Goals as goal
 
 pub returns-clause-lists : goal.returns-clause-lists

@@ -1,9 +1,6 @@
-use Rattle.std.proofs.Common.{◌∙◌, ap, refl, subst, rules}
+use Rattle.store.proofs.Names.{◌∙◌, ap, refl, subst, rules, IsDatabase, Content, IsWanted, wanted_of, names_for}
 use Rattle.sqlite.specs.Held.{state}
-use Rattle.sqlite.specs.Effect.{IsDatabase}
-use Rattle.store.specs.State.{Content}
-use Rattle.store.specs.Entering.{IsWanted, wanted_of, names_for}
-use Rattle.store.proofs.Reopened.{left_ready, found_rest, refused_for, survives_again}
+use Rattle.store.proofs.CrashOpenings.{left_ready, found_rest, refused_for, survives_again}
 use Rattle.store.proofs.store.Store.open_for.Goals as goal
 
 pub returns-in-Ok : goal.returns-in-Ok

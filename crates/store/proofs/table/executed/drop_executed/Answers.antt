@@ -1,6 +1,6 @@
 use Rattle.std.proofs.Common.{refl}
 use Rattle.sqlite.specs.Held.{state}
-use Rattle.store.proofs.Migrating.{done_drop}
+use Rattle.store.proofs.MigrationStatements.{done_drop}
 use Rattle.store.proofs.Keeps.{stays_executed}
 use Rattle.store.proofs.table.executed.drop_executed.Goals as goal
 

@@ -1,5 +1,5 @@
 use Rattle.std.proofs.Common.{sym, arith, rules}
-use Rattle.store.proofs.Judging.{row_of_three, lawful_id}
+use Rattle.store.proofs.RowChecks.{row_of_three, lawful_id}
 use Rattle.store.proofs.table.executed.id_of.Goals as goal
 
 pub returns : goal.returns

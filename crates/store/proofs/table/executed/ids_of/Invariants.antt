@@ -1,7 +1,4 @@
-use Rattle.std.proofs.Common.{take, map, ◌≡◌}
-use Rattle.std.specs.List.{AllByRecursion}
-use Rattle.store.specs.Rows.{IsExecutedRow, id_in}
-use Rattle.store.specs.Judge.{span_of_id}
+use Rattle.store.proofs.Names.{take, map, ◌≡◌, AllByRecursion, IsExecutedRow, id_in, span_of_id}
 use Rattle.store.proofs.table.executed.ids_of.Given as goal
 
 abbrev pub invariant-loop-row : goal.invariant-loop-row

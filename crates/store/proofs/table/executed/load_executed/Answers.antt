@@ -1,6 +1,6 @@
 use Rattle.std.proofs.Common.{rules}
 use Rattle.sqlite.specs.Held.{state}
-use Rattle.store.proofs.Loading.{executed_table, on_seen, judged_fault}
+use Rattle.store.proofs.TableQueries.{executed_table, on_seen, judged_fault}
 use Rattle.store.proofs.table.executed.load_executed.Goals as goal
 
 pub returns-in_err-rows : goal.returns-in_err-rows

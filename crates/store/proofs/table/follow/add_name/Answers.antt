@@ -1,6 +1,6 @@
 use Rattle.std.proofs.Common.{refl}
 use Rattle.sqlite.specs.Held.{state}
-use Rattle.store.proofs.Making.{done_name}
+use Rattle.store.proofs.CreateTables.{done_name}
 use Rattle.store.proofs.Keeps.{stays_executed}
 use Rattle.store.proofs.table.follow.add_name.Goals as goal
 

@@ -1,9 +1,7 @@
-use Rattle.std.proofs.Common.{subst, sym, arith}
-use Rattle.sqlite.specs.State.{HasCleanDisk}
+use Rattle.store.proofs.Names.{subst, sym, arith, HasCleanDisk, IsNaming}
 use Rattle.sqlite.specs.Held.{state}
-use Rattle.store.specs.Making.{IsNaming}
 use Rattle.store.proofs.Keeps.{stays_then, stays_ok}
-use Rattle.store.proofs.Filling.{one_name}
+use Rattle.store.proofs.NewTables.{one_name}
 use Rattle.store.proofs.table.follow.add_names.Goals as goal
 
 pub loop-name-preserved : goal.loop-name-preserved

@@ -1,9 +1,6 @@
-use Rattle.std.proofs.Common.{take}
+use Rattle.store.proofs.Names.{take, HasCleanDisk, name_list, IsNaming}
 use Rattle.std.specs.FinSet as set
-use Rattle.sqlite.specs.State.{HasCleanDisk}
 use Rattle.sqlite.specs.Held.{state}
-use Rattle.binlog.specs.FilterView.{name_list}
-use Rattle.store.specs.Making.{IsNaming}
 use Rattle.store.proofs.Keeps.{HaveStayed}
 use Rattle.store.proofs.table.follow.add_names.Given as goal
 

@@ -1,6 +1,6 @@
 use Rattle.std.proofs.Common.{rules}
 use Rattle.sqlite.specs.Held.{state}
-use Rattle.store.proofs.Loading.{follow_table, on_seen, judged_fault}
+use Rattle.store.proofs.TableQueries.{follow_table, on_seen, judged_fault}
 use Rattle.store.proofs.table.follow.load_follow.Goals as goal
 
 pub returns-in_err-rows : goal.returns-in_err-rows

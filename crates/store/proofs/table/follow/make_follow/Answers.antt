@@ -1,7 +1,7 @@
 use Rattle.std.proofs.Common.{refl}
 use Rattle.sqlite.specs.Held.{state}
-use Rattle.store.proofs.Making.{done_follow}
-use Rattle.store.proofs.Migrating.{done_follow as migrated}
+use Rattle.store.proofs.CreateTables.{done_follow}
+use Rattle.store.proofs.MigrationStatements.{done_follow as migrated}
 use Rattle.store.proofs.Keeps.{stays_executed}
 use Rattle.store.proofs.table.follow.make_follow.Goals as goal
 

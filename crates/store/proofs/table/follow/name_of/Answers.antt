@@ -1,5 +1,5 @@
 use Rattle.std.proofs.Common.{arith}
-use Rattle.store.proofs.Judging.{row_of_three, lawful_name}
+use Rattle.store.proofs.RowChecks.{row_of_three, lawful_name}
 use Rattle.store.proofs.table.follow.name_of.Goals as goal
 
 pub returns : goal.returns

@@ -1,7 +1,4 @@
-use Rattle.std.proofs.Common.{take, map, ◌≡◌}
-use Rattle.std.specs.List.{AllByRecursion}
-use Rattle.store.specs.Rows.{IsFollowRow, name_in}
-use Rattle.binlog.specs.FilterView.{name_list}
+use Rattle.store.proofs.Names.{take, map, ◌≡◌, AllByRecursion, IsFollowRow, name_in, name_list}
 use Rattle.store.proofs.table.follow.names_in.Given as goal
 
 abbrev pub invariant-loop-row : goal.invariant-loop-row

@@ -2,7 +2,7 @@ use Rattle.std.proofs.Common.{◌≡◌, ◌<◌, ◌^◌, ℕ, Option, Some, No
 use Rattle.sqlite.specs.Held.{state}
 use Rattle.store.specs.Rows.{Finds, key_in, held_rows}
 use Rattle.store.proofs.Done.{found_any}
-use Rattle.store.proofs.Counted.{found_count}
+use Rattle.store.proofs.PlainQueries.{found_count}
 use Rattle.store.proofs.table.held.count.Goals as goal
 
 pub returns-clause-counts : goal.returns-clause-counts

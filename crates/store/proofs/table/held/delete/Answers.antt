@@ -1,6 +1,5 @@
-use Rattle.std.proofs.Common.{refl, Ok}
+use Rattle.store.proofs.Names.{refl, Ok, key_in}
 use Rattle.sqlite.specs.Held.{state}
-use Rattle.store.specs.Rows.{key_in}
 use Rattle.store.proofs.Keeps.{stays_executed, stays_ok}
 use Rattle.store.proofs.Done.{done_delete}
 use Rattle.store.proofs.table.held.delete.Goals as goal

@@ -1,12 +1,9 @@
-use Rattle.std.proofs.Common.{[]}
-use Rattle.sqlite.specs.State.{HasCleanDisk}
+use Rattle.store.proofs.Names.{[], HasCleanDisk, IsLaidOut, read_text, key_in}
 use Rattle.sqlite.specs.Held.{state}
-use Rattle.store.specs.Layout.{IsLaidOut, read_text}
-use Rattle.store.specs.Rows.{key_in}
 use Rattle.store.proofs.Selects.{key_params}
 use Rattle.store.proofs.Keeps.{kept_query, opened_query, live_query}
 use Rattle.store.proofs.Steps.{clean_before}
-use Rattle.store.proofs.Counted.{find_read, find_same, find_survives, rests_read}
+use Rattle.store.proofs.PlainQueries.{find_read, find_same, find_survives, rests_read}
 use Rattle.store.proofs.table.held.find.Goals as goal
 
 pub returns-clause-shown : goal.returns-clause-shown

@@ -1,5 +1,5 @@
 use Rattle.std.proofs.Common.{true, sym, arith}
-use Rattle.store.proofs.Judging.{row_of_five, lawful_held}
+use Rattle.store.proofs.RowChecks.{row_of_five, lawful_held}
 use Rattle.store.proofs.table.held.held_rule.Goals as goal
 
 pub returns : goal.returns

@@ -1,7 +1,5 @@
-use Rattle.std.proofs.Common.{[], ◌∷◌, refl}
+use Rattle.store.proofs.Names.{[], ◌∷◌, refl, insert_text, key_in}
 use Rattle.sqlite.specs.Held.{state}
-use Rattle.store.specs.Layout.{insert_text}
-use Rattle.store.specs.Rows.{key_in}
 use Rattle.store.proofs.Selects.{key_params}
 use Rattle.store.proofs.Keeps.{stays_inserted}
 use Rattle.store.proofs.Done.{taken, no_fault, done_inserted, done_insert}

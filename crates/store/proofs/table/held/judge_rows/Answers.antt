@@ -1,6 +1,5 @@
-use Rattle.std.proofs.Common.{refl, sym, subst}
+use Rattle.store.proofs.Names.{refl, sym, subst, Advances}
 use Rattle.sqlite.specs.Held.{state}
-use Rattle.sqlite.specs.Given.{Advances}
 use Rattle.store.proofs.Steps.{clean_before}
 use Rattle.store.proofs.Verdicts.{survives_self, rested_self, judging_none, judged_all}
 use Rattle.store.proofs.table.held.judge_rows.Goals as goal

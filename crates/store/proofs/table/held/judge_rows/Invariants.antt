@@ -1,8 +1,7 @@
-use Rattle.std.proofs.Common.{ℕ, List, []}
-use Rattle.sqlite.specs.State.{HasCleanDisk}
+use Rattle.store.proofs.Names.{ℕ, List, [], HasCleanDisk, Rested}
 use Rattle.sqlite.specs.Held.{state}
 use Rattle.sqlite.specs.Given.{HasGiven}
-use Rattle.store.specs.Load.{ReadsOn, Rested, IsJudging}
+use Rattle.store.specs.Load.{ReadsOn, IsJudging}
 use Rattle.store.proofs.table.held.judge_rows.Given as goal
 
 abbrev pub invariant-rows : goal.invariant-rows

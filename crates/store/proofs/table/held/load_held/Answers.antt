@@ -1,7 +1,5 @@
-use Rattle.std.proofs.Common.{◌≡◌, Err, sym, subst, rules}
-use Rattle.sqlite.specs.State.{HasCleanDisk, IsUnchanged, Survives}
+use Rattle.store.proofs.Names.{◌≡◌, Err, sym, subst, rules, HasCleanDisk, IsUnchanged, Survives, AsksAll, OnSeen, Rested, all_held_text}
 use Rattle.sqlite.specs.Held.{state}
-use Rattle.store.specs.Load.{AsksAll, OnSeen, Rested, all_held_text}
 use Rattle.store.proofs.Readings.{all_rests, all_survives}
 use Rattle.store.proofs.Steps.{clean_before}
 use Rattle.store.proofs.Verdicts.{begun_survives, begun_rested, begun_same, begun_judged}

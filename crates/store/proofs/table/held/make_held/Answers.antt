@@ -1,6 +1,6 @@
 use Rattle.std.proofs.Common.{refl}
 use Rattle.sqlite.specs.Held.{state}
-use Rattle.store.proofs.Making.{done_held}
+use Rattle.store.proofs.CreateTables.{done_held}
 use Rattle.store.proofs.Keeps.{stays_executed}
 use Rattle.store.proofs.table.held.make_held.Goals as goal
 

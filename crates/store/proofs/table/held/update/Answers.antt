@@ -1,7 +1,5 @@
-use Rattle.std.proofs.Common.{refl, w64}
-use Rattle.std.proofs.lemmas.Int.{to_z-of_z}
+use Rattle.store.proofs.Names.{refl, w64, to_z-of_z, key_in}
 use Rattle.sqlite.specs.Held.{state}
-use Rattle.store.specs.Rows.{key_in}
 use Rattle.store.proofs.Keeps.{stays_executed}
 use Rattle.store.proofs.Done.{done_raise, done_lower}
 use Rattle.store.proofs.table.held.update.Goals as goal

@@ -1,6 +1,6 @@
 use Rattle.std.proofs.Common.{refl}
 use Rattle.sqlite.specs.Held.{state}
-use Rattle.store.proofs.Migrating.{done_raise}
+use Rattle.store.proofs.MigrationStatements.{done_raise}
 use Rattle.store.proofs.Keeps.{stays_executed}
 use Rattle.store.proofs.table.meta.raise_layout.Goals as goal
 

@@ -1,12 +1,9 @@
-use Rattle.std.proofs.Common.{rules}
+use Rattle.store.proofs.Names.{rules, meta_tree, meta_rows, all_meta_text}
 use Rattle.sqlite.specs.Held.{state}
-use Rattle.binlog.proofs.Kept.{on_ok}
+use Rattle.binlog.proofs.Prefixes.{on_ok}
 use Rattle.store.proofs.Wholes.{meta_asks}
-use Rattle.store.specs.Layout.{meta_tree}
-use Rattle.store.specs.Rows.{meta_rows}
-use Rattle.store.specs.Load.{all_meta_text}
 use Rattle.store.proofs.Steps.{first_step, clean_before}
-use Rattle.store.proofs.Loading.{meta_table}
+use Rattle.store.proofs.TableQueries.{meta_table}
 use Rattle.store.proofs.table.meta.read_meta.Goals as goal
 
 pub returns-in_err-rows-clause-looks : goal.returns-in_err-rows-clause-looks

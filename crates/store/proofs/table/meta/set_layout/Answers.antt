@@ -1,6 +1,6 @@
 use Rattle.std.proofs.Common.{refl}
 use Rattle.sqlite.specs.Held.{state}
-use Rattle.store.proofs.Making.{done_layout}
+use Rattle.store.proofs.CreateTables.{done_layout}
 use Rattle.store.proofs.Keeps.{stays_executed}
 use Rattle.store.proofs.table.meta.set_layout.Goals as goal
 

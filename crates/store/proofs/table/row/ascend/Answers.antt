@@ -1,5 +1,5 @@
 use Rattle.std.proofs.Common.{None, arith}
-use Rattle.store.proofs.Judging.{rise_end, rise_rowids}
+use Rattle.store.proofs.RowChecks.{rise_end, rise_rowids}
 use Rattle.store.proofs.table.row.ascend.Goals as goal
 
 pub returns : goal.returns

@@ -1,7 +1,5 @@
-use Rattle.std.proofs.Common.{ℕ}
-use Rattle.sqlite.specs.State.{HasCleanDisk}
+use Rattle.store.proofs.Names.{ℕ, HasCleanDisk, AsksAll}
 use Rattle.sqlite.specs.Held.{state}
-use Rattle.store.specs.Load.{AsksAll}
 use Rattle.store.proofs.Keeps.{opened_query, live_query}
 use Rattle.store.proofs.Readings.{all_rows, all_ascend, all_same, all_rests, all_survives}
 use Rattle.store.proofs.table.row.read_all.Goals as goal

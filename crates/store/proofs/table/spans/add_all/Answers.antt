@@ -1,7 +1,5 @@
-use Rattle.std.proofs.Common.{subst, arith}
-use Rattle.sqlite.specs.State.{HasCleanDisk}
+use Rattle.store.proofs.Names.{subst, arith, HasCleanDisk, HasLeft}
 use Rattle.sqlite.specs.Held.{state}
-use Rattle.store.specs.Inside.{HasLeft}
 use Rattle.store.proofs.Keeps.{stays_then, stays_ok}
 use Rattle.store.proofs.SpanLists.{left_less}
 use Rattle.store.proofs.table.spans.add_all.Goals as goal

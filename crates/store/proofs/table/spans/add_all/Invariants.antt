@@ -1,8 +1,5 @@
-use Rattle.std.specs.List.{AllByRecursion}
-use Rattle.gtid.specs.Identifier.{IsSource}
-use Rattle.sqlite.specs.State.{HasCleanDisk}
+use Rattle.store.proofs.Names.{AllByRecursion, IsSource, HasCleanDisk, IsWorking, HasLeft}
 use Rattle.sqlite.specs.Held.{state}
-use Rattle.store.specs.Inside.{IsWorking, HasLeft}
 use Rattle.store.proofs.Keeps.{HaveStayed}
 use Rattle.store.proofs.table.spans.add_all.Given as goal
 

@@ -1,5 +1,4 @@
-use Rattle.std.proofs.Common.{refl, w64}
-use Rattle.std.proofs.lemmas.Int.{to_z-of_z}
+use Rattle.store.proofs.Names.{refl, w64, to_z-of_z}
 use Rattle.sqlite.specs.Held.{state}
 use Rattle.store.proofs.Keeps.{stays_executed}
 use Rattle.store.proofs.SpanEffects.{done_add}

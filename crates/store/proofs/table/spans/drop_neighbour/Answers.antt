@@ -1,9 +1,5 @@
-use Rattle.std.proofs.Common.{◌<◌, ◌^◌, ◌∷◌, ◌++◌, map, w64, arith}
-use Rattle.std.proofs.lemmas.Int.{to_z_pos}
+use Rattle.store.proofs.Names.{◌<◌, ◌^◌, ◌∷◌, ◌++◌, map, w64, arith, to_z_pos, IsLawfulSpan, span_rows, stored_span, AreRowsOf}
 use Rattle.sqlite.specs.Held.{state}
-use Rattle.gtid.specs.Span.{IsLawfulSpan}
-use Rattle.store.specs.Rows.{span_rows, stored_span}
-use Rattle.store.specs.Inside.{AreRowsOf}
 use Rattle.store.proofs.SpanRecord.{one_out}
 use Rattle.store.proofs.table.spans.drop_neighbour.Goals as goal
 

@@ -1,5 +1,5 @@
 use Rattle.std.proofs.Common.{rules}
-use Rattle.gtid.proofs.Gathered.{rise_from_sort}
+use Rattle.gtid.proofs.SpanGroups.{rise_from_sort}
 use Rattle.store.proofs.table.spans.in_order.Goals as goal
 
 pub returns-clause-rise : goal.returns-clause-rise

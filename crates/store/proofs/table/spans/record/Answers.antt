@@ -1,13 +1,7 @@
-use Rattle.std.proofs.Common.{◌<◌, ◌^◌, ◌≡◌, [], ◌∷◌, ◌++◌, OnOk, Some, pos, map, w64, arith}
-use Rattle.std.proofs.lemmas.Int.{to_z_pos}
-use Rattle.sqlite_value.specs.declared.value.Value.TheVariants.{Int, Blob}
-use Rattle.sqlite.specs.State.{HasCleanDisk}
+use Rattle.store.proofs.Names.{◌<◌, ◌^◌, ◌≡◌, [], ◌∷◌, ◌++◌, OnOk, Some, pos, map, w64, arith, to_z_pos, Int, Blob, HasCleanDisk, IsLawfulSpan, span_rows, shown_spans, stored_span, Moves}
 use Rattle.sqlite.specs.Held.{state}
 use Rattle.gtid.specs.Identifier.{id}
-use Rattle.gtid.specs.Span.{IsLawfulSpan}
 use Rattle.gtid.specs.Beside.{one_or_none, joined}
-use Rattle.store.specs.Rows.{span_rows, shown_spans, stored_span}
-use Rattle.store.specs.Inside.{Moves}
 use Rattle.store.proofs.SpanRecord.{both_there, begins_below, recorded_longer, recorded_new, low_joined, high_joined}
 use Rattle.store.proofs.table.spans.record.Goals as goal
 

@@ -1,7 +1,5 @@
-use Rattle.std.proofs.Common.{◌<◌, ◌^◌, [], map, w64, rules}
-use Rattle.std.proofs.lemmas.Int.{to_z_pos}
+use Rattle.store.proofs.Names.{◌<◌, ◌^◌, [], map, w64, rules, to_z_pos, span_rows, stored_span}
 use Rattle.sqlite.specs.Held.{state}
-use Rattle.store.specs.Rows.{span_rows, stored_span}
 use Rattle.store.proofs.SpanRecord.{one_out}
 use Rattle.store.proofs.table.spans.remove.Goals as goal
 

@@ -1,10 +1,7 @@
-use Rattle.std.proofs.Common.{subst, arith}
-use Rattle.sqlite.specs.State.{HasCleanDisk}
+use Rattle.store.proofs.Names.{subst, arith, HasCleanDisk, span_rows, AreRowsOf}
 use Rattle.sqlite.specs.Held.{state}
-use Rattle.store.specs.Rows.{span_rows}
-use Rattle.store.specs.Inside.{AreRowsOf}
 use Rattle.store.proofs.Keeps.{stays_then, stays_ok}
-use Rattle.store.proofs.Made.{goes_then}
+use Rattle.store.proofs.BetweenCalls.{goes_then}
 use Rattle.store.proofs.SpanLists.{one_removed}
 use Rattle.store.proofs.table.spans.remove_all.Goals as goal
 

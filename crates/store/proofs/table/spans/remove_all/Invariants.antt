@@ -1,8 +1,5 @@
-use Rattle.std.proofs.Common.{◌≡◌}
-use Rattle.sqlite.specs.State.{HasCleanDisk}
+use Rattle.store.proofs.Names.{◌≡◌, HasCleanDisk, span_rows, held_rows, IsWorking, StaysOpen, AreRowsOf}
 use Rattle.sqlite.specs.Held.{state}
-use Rattle.store.specs.Rows.{span_rows, held_rows}
-use Rattle.store.specs.Inside.{IsWorking, StaysOpen, AreRowsOf}
 use Rattle.store.proofs.Keeps.{HaveStayed}
 use Rattle.store.proofs.table.spans.remove_all.Given as goal
 

@@ -1,5 +1,4 @@
-use Rattle.std.proofs.Common.{arith}
-use Rattle.sqlite.specs.State.{HasCleanDisk}
+use Rattle.store.proofs.Names.{arith, HasCleanDisk}
 use Rattle.sqlite.specs.Held.{state}
 use Rattle.store.proofs.SpanLists.{are_gtids, all_listed, replaced}
 use Rattle.store.proofs.table.spans.replace_all.Goals as goal

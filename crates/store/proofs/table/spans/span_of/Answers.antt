@@ -1,5 +1,5 @@
 use Rattle.std.proofs.Common.{sym, arith, rules}
-use Rattle.store.proofs.Judging.{row_of_four, lawful_span}
+use Rattle.store.proofs.RowChecks.{row_of_four, lawful_span}
 use Rattle.store.proofs.table.spans.span_of.Goals as goal
 
 pub returns : goal.returns

@@ -1,6 +1,4 @@
-use Rattle.std.proofs.Common.{take, map, ◌≡◌}
-use Rattle.std.specs.List.{AllByRecursion}
-use Rattle.store.specs.Rows.{IsSpanRow, span_in}
+use Rattle.store.proofs.Names.{take, map, ◌≡◌, AllByRecursion, IsSpanRow, span_in}
 use Rattle.store.proofs.table.spans.spans_of.Given as goal
 
 abbrev pub invariant-loop-row : goal.invariant-loop-row

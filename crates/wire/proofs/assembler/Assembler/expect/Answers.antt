@@ -1,5 +1,5 @@
 use Rattle.std.proofs.Common.{ap, sym, ◌∙◌, arith, inl}
-use Rattle.wire.proofs.Unpacking.{held_of-empty, nothing_held, in_header}
+use Rattle.wire.proofs.UnpackerState.{held_of-empty, nothing_held, in_header}
 use Rattle.wire.proofs.assembler.Assembler.expect.Goals as goal
 
 pub invariant_of-self : goal.invariant_of-self

@@ -1,9 +1,8 @@
-use Rattle.std.proofs.Common.{◌≡◌, ◌<◌, ◌++◌, length, ap, sym, subst, ◌∙◌, arith}
+use Rattle.wire.proofs.Names.{◌≡◌, ◌<◌, ◌++◌, length, ap, sym, subst, ◌∙◌, arith, IsUnfinished, IsComplete}
 use Rattle.std.proofs.lemmas.List.{take_all}
 use Rattle.std.proofs.lemmas.Bool.{false≢true}
-use Rattle.wire.specs.Payload.{IsUnfinished}
-use Rattle.wire.specs.Held.{held_of, IsComplete}
-use Rattle.wire.proofs.Unpacking.{held_unfinished, short_held}
+use Rattle.wire.specs.Held.{held_of}
+use Rattle.wire.proofs.UnpackerState.{held_unfinished, short_held}
 use Rattle.wire.proofs.OnePacking.{length_packing-held}
 use Rattle.wire.proofs.assembler.Assembler.step.Goals as goal
 

@@ -1,6 +1,6 @@
 use Rattle.std.proofs.Common.{ℕ, length-take, length-drop, arith}
 use Rattle.std.proofs.lemmas.List.{take_rest}
-use Rattle.wire.proofs.Unpacking.{taken_more}
+use Rattle.wire.proofs.UnpackerState.{taken_more}
 use Rattle.wire.proofs.unpacker.Unpacker.advance.Goals as goal
 use Rattle.wire.proofs.unpacker.Unpacker.advance.Goals.{then-self-lt-HEADER_LENGTH+in_ok-take_header, else-self-lt-HEADER_LENGTH}
 

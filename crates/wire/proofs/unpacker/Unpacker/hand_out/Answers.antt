@@ -1,7 +1,6 @@
-use Rattle.std.proofs.Common.{◌≡◌, ◌+◌, ◌%◌, ap, sym, subst, arith}
-use Rattle.wire.specs.Payload.{IsWholePayload}
+use Rattle.wire.proofs.Names.{◌≡◌, ◌+◌, ◌%◌, ap, sym, subst, arith, IsWholePayload}
 use Rattle.wire.specs.Held.{held_of}
-use Rattle.wire.proofs.Unpacking.{whole_payload}
+use Rattle.wire.proofs.UnpackerState.{whole_payload}
 use Rattle.wire.proofs.unpacker.Unpacker.hand_out.Goals as goal
 
 pub returns-clause-payload : goal.returns-clause-payload

@@ -1,5 +1,5 @@
 use Rattle.std.proofs.Common.{◌≡◌, vec_len, arith}
-use Rattle.wire.proofs.Unpacking.{held_of-empty, nothing_held}
+use Rattle.wire.proofs.UnpackerState.{held_of-empty, nothing_held}
 use Rattle.wire.proofs.unpacker.Unpacker.is_empty.Goals as goal
 
 pub returns-then-self-eq0 : goal.returns-then-self-eq0

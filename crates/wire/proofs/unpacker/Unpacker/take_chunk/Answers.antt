@@ -1,7 +1,7 @@
 use Rattle.std.proofs.Common.{◌≡◌, ℕ, ◌+◌, ◌-◌, ◌*◌, ◌≤◌, List, ◌++◌, length, take, refl, ap, ◌∙◌, arith, inl, inr, length-append, length-take, lit<, is_ok, vec_len}
 use Rattle.wire.specs.Packet.{full_chunk}
 use Rattle.wire.specs.declared.unpacker.Unpacker.{Unpacker}
-use Rattle.wire.proofs.Unpacking.{held_of-chunk, held_of-full}
+use Rattle.wire.proofs.UnpackerState.{held_of-chunk, held_of-full}
 use Rattle.wire.proofs.unpacker.Unpacker.take_chunk.Goals as goal
 
 -- how much longer the payload is

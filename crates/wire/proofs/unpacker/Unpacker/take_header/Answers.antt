@@ -1,10 +1,9 @@
-use Rattle.std.proofs.Common.{◌≡◌, ◌+◌, ◌%◌, length, take, drop, refl, ap, subst, ◌∙◌, arith, inl, inr}
+use Rattle.wire.proofs.Names.{◌≡◌, ◌+◌, ◌%◌, length, take, refl, ap, subst, ◌∙◌, arith, inl, inr, HasHeader, IsOutOfSequence, IsTooLarge, Unpacker}
+use Rattle.std.proofs.Common.{drop}
 use Rattle.std.proofs.lemmas.Result.{err_from_is_err_and}
 use Rattle.wire.specs.Packet.{full_chunk}
-use Rattle.wire.specs.Payload.{HasHeader, IsOutOfSequence, IsTooLarge}
 use Rattle.wire.specs.Held.{held_of}
-use Rattle.wire.specs.declared.unpacker.Unpacker.{Unpacker}
-use Rattle.wire.proofs.Unpacking.{held_of-header, rejoined, header_held, ends_later, out_of_sequence, too_large}
+use Rattle.wire.proofs.UnpackerState.{held_of-header, rejoined, header_held, ends_later, out_of_sequence, too_large}
 use Rattle.wire.proofs.unpacker.Unpacker.take_header.Goals as goal
 
 pub returns-then-self-lt-HEADER_LENGTH-clause-ok : goal.returns-then-self-lt-HEADER_LENGTH-clause-ok

@@ -1,5 +1,4 @@
-use Rattle.std.proofs.Common.{◌++◌, ap, ◌∙◌}
-use Rattle.binlog.specs.Row.{kinds}
+use Rattle.binlog.proofs.Names.{◌++◌, ap, ◌∙◌, kinds}
 use Rattle.binlog.proofs.WholeColumns.{one_more, no_more}
 use Rattle.binlog.proofs.column.types.ColumnTypes.to_vec.Goals as goal
 

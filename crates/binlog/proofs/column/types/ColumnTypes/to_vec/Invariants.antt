@@ -1,5 +1,4 @@
-use Rattle.std.proofs.Common.{◌≡◌, ◌++◌}
-use Rattle.binlog.specs.Row.{kinds}
+use Rattle.binlog.proofs.Names.{◌≡◌, ◌++◌, kinds}
 use Rattle.binlog.proofs.column.types.ColumnTypes.to_vec.Given as goal
 
 abbrev pub invariant-loop-column : goal.invariant-loop-column

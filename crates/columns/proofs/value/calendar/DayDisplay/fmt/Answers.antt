@@ -1,5 +1,5 @@
 use Rattle.std.proofs.Common.{◌+◌, sym}
-use Rattle.columns.proofs.Padded.{two_digits, four_digits}
+use Rattle.columns.proofs.LeadingZeros.{two_digits, four_digits}
 use Rattle.columns.proofs.value.calendar.DayDisplay.fmt.Goals as goal
 
 pub returns-clause-writes : goal.returns-clause-writes

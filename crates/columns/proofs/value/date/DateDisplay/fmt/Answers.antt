@@ -1,4 +1,4 @@
-use Rattle.columns.proofs.Padded.{two_digits, four_digits}
+use Rattle.columns.proofs.LeadingZeros.{two_digits, four_digits}
 use Rattle.columns.proofs.value.date.DateDisplay.fmt.Goals as goal
 
 pub returns-clause-writes : goal.returns-clause-writes

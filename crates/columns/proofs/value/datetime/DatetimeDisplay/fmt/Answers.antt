@@ -1,4 +1,4 @@
-use Rattle.columns.proofs.Padded.{two_digits}
+use Rattle.columns.proofs.LeadingZeros.{two_digits}
 use Rattle.columns.proofs.value.datetime.DatetimeDisplay.fmt.Goals as goal
 
 pub returns-clause-writes : goal.returns-clause-writes

@@ -1,5 +1,4 @@
-use Rattle.std.proofs.Common.{◌≡◌, ℕ, ◌-◌, ◌++◌, ◌&&◌, true, length, ap, sym, subst, ◌∙◌, arith}
-use Rattle.columns.specs.Decimals.{are_zeros}
+use Rattle.columns.proofs.Names.{◌≡◌, ℕ, ◌-◌, ◌++◌, ◌&&◌, true, length, ap, sym, subst, ◌∙◌, arith, are_zeros}
 use Rattle.columns.specs.FieldDecimals.{point_part, IsPointed}
 use Rattle.columns.specs.FieldPoints.{without_zeros}
 use Rattle.columns.proofs.Types.{never, and_parts}

@@ -1,6 +1,4 @@
-use Rattle.std.proofs.Common.{replicate, ◌∙◌, ap, sym, arith}
-use Rattle.std.proofs.lemmas.List.{length-take-le}
-use Rattle.columns.specs.Decimals.{groups_size}
+use Rattle.columns.proofs.Names.{replicate, ◌∙◌, ap, sym, arith, length-take-le, groups_size}
 use Rattle.columns.proofs.DigitGroups.{size_is}
 use Rattle.columns.proofs.value.decimal.Decimal.write.Goals as goal
 

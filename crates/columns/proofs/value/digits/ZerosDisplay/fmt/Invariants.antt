@@ -1,5 +1,4 @@
-use Rattle.std.proofs.Common.{replicate}
-use Rattle.std.specs.Fmt.{HasWritten, IsPlainFormatter}
+use Rattle.columns.proofs.Names.{replicate, HasWritten, IsPlainFormatter}
 use Rattle.columns.proofs.value.digits.ZerosDisplay.fmt.Given as goal
 
 abbrev pub invariant-loop-i : goal.invariant-loop-i

@@ -1,5 +1,4 @@
-use Rattle.std.proofs.Common.{◌≡◌, length, ◌∙◌, rules}
-use Rattle.columns.specs.Times.{even_digits, fraction_size}
+use Rattle.columns.proofs.Names.{◌≡◌, length, ◌∙◌, rules, even_digits, fraction_size}
 use Rattle.columns.proofs.Fractions.{even_fits}
 use Rattle.columns.proofs.value.fraction.Fraction.of_bytes.Goals as goal
 

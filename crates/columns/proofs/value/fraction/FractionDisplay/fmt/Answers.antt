@@ -1,6 +1,5 @@
-use Rattle.std.proofs.Common.{◌<◌, arith}
-use Rattle.std.proofs.lemmas.Bool.{ne_eqb}
-use Rattle.columns.proofs.Padded.{some_digits}
+use Rattle.columns.proofs.Names.{◌<◌, arith, ne_eqb}
+use Rattle.columns.proofs.LeadingZeros.{some_digits}
 use Rattle.columns.proofs.value.fraction.FractionDisplay.fmt.Goals as goal
 
 pub returns-clause-writes : goal.returns-clause-writes

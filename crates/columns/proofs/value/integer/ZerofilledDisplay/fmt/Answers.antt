@@ -1,4 +1,4 @@
-use Rattle.columns.proofs.Padded.{any_digits}
+use Rattle.columns.proofs.LeadingZeros.{any_digits}
 use Rattle.columns.proofs.value.integer.ZerofilledDisplay.fmt.Goals as goal
 
 pub returns-clause-writes : goal.returns-clause-writes

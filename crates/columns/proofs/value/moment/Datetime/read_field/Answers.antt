@@ -1,7 +1,5 @@
-use Rattle.std.proofs.Common.{◌∷◌, ◌++◌, sym, ap, subst, ◌∙◌}
-use Rattle.std.specs.Prelude.{IsTrue}
+use Rattle.columns.proofs.Names.{◌∷◌, ◌++◌, sym, ap, subst, ◌∙◌, IsTrue, is_fraction, clock_text}
 use Rattle.columns.specs.Dates.{date_text}
-use Rattle.columns.specs.Times.{is_fraction, clock_text}
 use Rattle.columns.proofs.ClockTexts.{date_range, clock_range}
 use Rattle.columns.proofs.value.moment.Datetime.read_field.Goals as goal
 

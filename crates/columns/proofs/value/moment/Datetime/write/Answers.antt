@@ -1,5 +1,4 @@
-use Rattle.std.proofs.Common.{◌≡◌, arith, rules}
-use Rattle.columns.specs.Times.{fraction_size}
+use Rattle.columns.proofs.Names.{◌≡◌, arith, rules, fraction_size}
 use Rattle.columns.proofs.value.moment.Datetime.write.Goals as goal
 
 pub returns-in_ok-extend_from_slice-in_default-clause-ok : goal.returns-in_ok-extend_from_slice-in_default-clause-ok

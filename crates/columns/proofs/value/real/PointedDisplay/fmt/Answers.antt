@@ -1,6 +1,5 @@
-use Rattle.std.proofs.Common.{◌<◌, ◌%◌, ◌^◌, arith}
-use Rattle.std.proofs.lemmas.Bool.{ne_eqb}
-use Rattle.columns.proofs.Padded.{some_digits}
+use Rattle.columns.proofs.Names.{◌<◌, ◌%◌, ◌^◌, arith, ne_eqb}
+use Rattle.columns.proofs.LeadingZeros.{some_digits}
 use Rattle.columns.proofs.Rounding.{some_unit, far_point}
 use Rattle.columns.proofs.value.real.PointedDisplay.fmt.Goals as goal
 

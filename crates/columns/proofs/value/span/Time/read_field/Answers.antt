@@ -1,8 +1,4 @@
-use Rattle.std.proofs.Common.{◌≡◌, ℕ, ◌<◌, Bool, List, ◌++◌, sym, ap, subst, ◌∙◌, arith}
-use Rattle.std.specs.Prelude.{IsTrue}
-use Rattle.columns.specs.Times.{is_fraction, clock_text}
-use Rattle.columns.specs.TimeRange.{is_time}
-use Rattle.columns.specs.FieldForms.{IsClockRange}
+use Rattle.columns.proofs.Names.{◌≡◌, ℕ, ◌<◌, Bool, List, ◌++◌, sym, ap, subst, ◌∙◌, arith, IsTrue, is_fraction, clock_text, is_time, IsClockRange}
 use Rattle.columns.specs.Reals.{minus_part}
 use Rattle.columns.specs.declared.value.span.Time.{Time}
 use Rattle.columns.proofs.ClockTexts.{clock_no_minus}

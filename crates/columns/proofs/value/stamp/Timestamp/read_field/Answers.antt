@@ -1,8 +1,5 @@
-use Rattle.std.proofs.Common.{◌≡◌, ℕ, List, ◌∷◌, ◌++◌, ap, sym, subst, ◌∙◌, arith}
-use Rattle.std.specs.Prelude.{IsTrue}
+use Rattle.columns.proofs.Names.{◌≡◌, ℕ, List, ◌∷◌, ◌++◌, ap, sym, subst, ◌∙◌, arith, IsTrue, is_fraction, clock_text, is_stamp}
 use Rattle.columns.specs.Dates.{date_text}
-use Rattle.columns.specs.Times.{is_fraction, clock_text}
-use Rattle.columns.specs.StampRange.{is_stamp}
 use Rattle.columns.specs.Stamps.{stamp_text}
 use Rattle.columns.specs.StampParts.{IsStampOf}
 use Rattle.columns.specs.declared.value.stamp.Timestamp.{Timestamp}

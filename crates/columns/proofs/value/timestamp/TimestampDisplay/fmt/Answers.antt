@@ -1,6 +1,6 @@
 use Rattle.std.proofs.Common.{◌/◌, ◌%◌}
 use Rattle.std.proofs.lemmas.Bool.{ne_eqb, eq-eqb}
-use Rattle.columns.proofs.Padded.{two_digits}
+use Rattle.columns.proofs.LeadingZeros.{two_digits}
 use Rattle.columns.proofs.value.timestamp.TimestampDisplay.fmt.Goals as goal
 
 pub returns-then-seconds-eq0-clause-writes : goal.returns-then-seconds-eq0-clause-writes

@@ -1,7 +1,5 @@
-use Rattle.std.proofs.Common.{◌≡◌, ℕ, ◌<◌, ◌^◌, List, length, sym, ap, subst, ◌∙◌, arith}
-use Rattle.std.specs.Prelude.{IsTrue}
+use Rattle.columns.proofs.Names.{◌≡◌, ℕ, ◌<◌, ◌^◌, List, length, sym, ap, subst, ◌∙◌, arith, IsTrue, IsDigitsOf}
 use Rattle.columns.specs.Dates.{is_year, year_text}
-use Rattle.columns.specs.Fields.{IsDigitsOf}
 use Rattle.columns.proofs.FieldDigits.{padded_is, padded_long, whole_small, is_padded}
 use Rattle.columns.proofs.value.year.Year.read_field.Goals as goal
 

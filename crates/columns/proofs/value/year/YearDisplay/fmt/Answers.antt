@@ -1,4 +1,4 @@
-use Rattle.columns.proofs.Padded.{four_digits}
+use Rattle.columns.proofs.LeadingZeros.{four_digits}
 use Rattle.columns.proofs.value.year.YearDisplay.fmt.Goals as goal
 
 pub returns-clause-writes : goal.returns-clause-writes

@@ -1,0 +1,4 @@
+mod Accounts
+mod Bytes
+mod Copies
+mod Writers

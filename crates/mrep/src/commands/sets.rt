@@ -1,0 +1,77 @@
+//! `mrep gtids`, `mrep missing` and `mrep adopt`: the executed set of a database.
+
+ghost use Rattle.std.specs.Prelude.{◌≡◌, IfOk};
+
+use crate::database::open::{closed, list_in, opened, opening};
+use crate::report::failure::{DONE, Failure};
+use clap::ArgMatches;
+use command_line::{parse_set, word};
+use formats::text_of;
+use gtid::GtidSet;
+use replica::{AdoptedFile, adopt_file};
+use reports::{ExecutedSet, MissingSet};
+use sqlite_disk::Unknown;
+use std::alloc::Global;
+use std::io::Write;
+
+/// Prints the executed set.
+pub fn gtids<'a, W: Write>(
+    rt: &HostRuntime,
+    given: &ArgMatches<'a>,
+    out: &mut W,
+) -> Result<(), Failure<'a>> {
+    let mut executed = ExecutedSet::new(rt.alloc());
+    list_in(rt, word(given, "db"), &mut executed)??;
+    print_set(rt.alloc(), &executed.found(), out)
+}
+
+/// Prints what of a set is not executed.
+pub fn missing<'a, W: Write>(
+    rt: &HostRuntime,
+    given: &ArgMatches<'a>,
+    out: &mut W,
+) -> Result<(), Failure<'a>> {
+    let asked = parse_set(rt.alloc(), "SET", word(given, "SET"))?;
+    let mut missing = MissingSet::new(asked);
+    list_in(rt, word(given, "db"), &mut missing)??;
+    print_set(rt.alloc(), &missing.missing(), out)
+}
+
+/// Adds a set to the executed set, and prints what was new of it.
+pub fn adopt<'a, W: Write>(
+    rt: &HostRuntime,
+    given: &ArgMatches<'a>,
+    out: &mut W,
+) -> Result<u8, Failure<'a>>
+    ensures { IfOk result (λ status. status ≡ DONE) }
+{
+    let asked = parse_set(rt.alloc(), "SET", word(given, "SET"))?;
+    let added = adopt_in(rt, word(given, "db"), &asked)?;
+    print_set(rt.alloc(), &added, out)?;
+    Ok(DONE)
+}
+
+/// Adds a set to the executed set of the database in a file, which is opened with its own filter. Returns what was new of it.
+fn adopt_in<'a>(rt: &HostRuntime, db: &'a str, asked: &GtidSet) -> Result<GtidSet, Failure<'a>> {
+    let opening = opening(rt, db)?;
+    let done = adopt_file(rt, db, Unknown, asked);
+    let AdoptedFile {
+        added,
+        closed: files,
+    } = opened(rt, db, opening, done)?;
+    let files = closed(db, files);
+    match added {
+        Ok(added) => {
+            files?;
+            Ok(added)
+        }
+        Err(cause) => Err(Failure::Database { name: db, cause }),
+    }
+}
+
+/// Prints the text of a set.
+fn print_set<'a, W: Write>(alloc: Global, ids: &GtidSet, out: &mut W) -> Result<(), Failure<'a>> {
+    let text = text_of(alloc, ids)?;
+    writeln!(out, "{text}")?;
+    Ok(())
+}

@@ -1,0 +1,67 @@
+//! `mrep show` and `mrep tables`: the rows of a database, and how many there are of each table.
+
+use crate::database::description::read_tables;
+use crate::database::printer::{Selection, print_rows, print_tallies};
+use crate::report::failure::Failure;
+use clap::ArgMatches;
+use command_line::{ArgumentFault, parse_encoding, parse_tables, word};
+use formats::{Chosen, format_of};
+use std::io::Write;
+use typed_rows::DescribedTables;
+
+/// Prints the filter, and a line for each table with rows.
+pub fn tables<'a, W: Write>(
+    rt: &HostRuntime,
+    given: &ArgMatches<'a>,
+    out: &mut W,
+) -> Result<(), Failure<'a>> {
+    print_tallies(rt, word(given, "db"), out)
+}
+
+/// Prints the rows of the tables that the arguments name, in the format that they name.
+pub fn show<'a, W: Write, E: Write>(
+    rt: &HostRuntime,
+    given: &ArgMatches<'a>,
+    out: &mut W,
+    err: &mut E,
+) -> Result<(), Failure<'a>> {
+    let format = format_of(given.get_str("format"));
+    let described = given.get_str("columns");
+    if described.is_none() && format.needs_columns() {
+        return Err(ArgumentFault::Columns.into());
+    }
+    let encoding = parse_encoding(given.get_str("bytes"), format, described.is_some())?;
+    let only = parse_tables(rt.alloc(), given.get_strs("only").unwrap_or(&[]))?;
+    let described = match described {
+        Some(name) => Some(read_tables(rt, name)?),
+        None => None,
+    };
+    let selection = Selection {
+        chosen: Chosen::new(rt.alloc(), only)?,
+        format,
+        encoding,
+    };
+    show_rows(
+        rt,
+        word(given, "db"),
+        selection,
+        described.as_ref(),
+        out,
+        err,
+    )
+}
+
+/// Prints the rows of a database, and reports of which of the tables that are named there was none.
+pub fn show_rows<'a, W: Write, E: Write>(
+    rt: &HostRuntime,
+    db: &'a str,
+    selection: Selection,
+    described: Option<&DescribedTables>,
+    out: &mut W,
+    err: &mut E,
+) -> Result<(), Failure<'a>> {
+    let chosen = print_rows(rt, db, selection, described, out)?;
+    out.flush()?;
+    let _ = chosen.note_missing(db, err);
+    Ok(())
+}

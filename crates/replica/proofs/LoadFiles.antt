@@ -1,0 +1,103 @@
+-- A store into which a first copy is loaded, and its files.
+use Rattle.replica.proofs.Names.{◌≡◌, ℕ, Bool, false, [], inl, None, Result, Err, IfOk, IfErr, refl, sym, ap, subst, ◌∙◌, Files, AreClean, SeenMayStay, Trees, IsClean, FileStore, Error, HasCleanDisk, over_files, IsClosed, FailsToClose, IsCopied, Id, Ids, Names, Content, adopted, StoreFault, ListError, Store, AreOf, database, Supply, NotAdopted, Account, HasStayed, HasChanged}
+use Rattle.std.specs.FinSet as set
+use Rattle.sqlite_disk.specs.declared.Disk.{Ghosts}
+use Rattle.sqlite_trees.specs.declared.store.Store.{Ghosts as StoreGhosts}
+use Rattle.sqlite_store.specs.FileStore.{view}
+use Rattle.sqlite.specs.Held.{state}
+use Rattle.store.specs.Faults.{IsFailure}
+use Rattle.store.specs.declared.fault.StoreFault.TheVariants as fault
+use Rattle.store.specs.declared.listing.ListError.TheVariants.{Store as StoreError, Visitor as VisitorError}
+use Rattle.store.specs.Listing.{HoldsListed}
+use Rattle.store.specs.Store.{Holds, Keeps}
+use Rattle.replica.specs.declared.loading.LoadEnd.{LoadEnd}
+use Rattle.replica.specs.declared.loading.LoadEnd.TheVariants.{Changed, Refused}
+use Rattle.replica.specs.declared.loading.Unloadable.{Unloadable}
+use Rattle.replica.specs.Copies.{IsUnloadable, MayNotLoad, with_first}
+use Rattle.replica.specs.Loading.{JudgesCopy, HasLoaded, IsLedByLoad}
+use Rattle.replica.specs.LoadFile.{LoadsTo, IsNotedOfLoad}
+use Rattle.replica.proofs.CaptureFiles.{clean_before_closing, noted_of_files}
+use Rattle.replica.proofs.ContentStays.{keeps_stayed}
+use Rattle.replica.proofs.ChangeFiles.{changed_into}
+
+module _ {S : Type 0} (g : StoreGhosts S) where
+  pub keeps_of : (store : Store S g) (content : Content) → Holds g store content → Keeps g store content
+  keeps_of store content holds = record { whole = holds.whole; executed = holds.executed; rest = λ is_open. holds.rest }
+
+  kept_listed : (E : Type 0) (f : StoreFault) (content : Content) (store : Store S g) → HoldsListed g {E = E} content store (Err (StoreError f)) → Keeps g store content × IsFailure f
+  kept_listed E (fault.Database e) content store keeps = (keeps, tt)
+  kept_listed E fault.Memory content store keeps = absurd keeps
+  kept_listed E fault.Damaged content store keeps = absurd keeps
+  kept_listed E (fault.Layout n) content store keeps = absurd keeps
+  kept_listed E fault.Broken content store keeps = absurd keeps
+  kept_listed E fault.Follows content store keeps = absurd keeps
+  kept_listed E (fault.NoSuchRow at) content store keeps = absurd keeps
+  kept_listed E (fault.CountFull at) content store keeps = absurd keeps
+
+  -- after a failure of the store, and after one of the visitor
+  pub kept_after : {E : Type 0} (error : ListError E) (f : StoreFault) (content : Content) (store : Store S g) → error ≡ StoreError f → HoldsListed g content store (Err error) → Keeps g store content × IsFailure f
+  kept_after {E} error f content store is listed = kept_listed E f content store (subst (λ (e : ListError E). HoldsListed g content store (Err e)) is listed)
+
+  pub held_after : {E : Type 0} (error : ListError E) (e : E) (content : Content) (store : Store S g) → error ≡ VisitorError e → HoldsListed g content store (Err error) → Holds g store content
+  held_after {E} error e content store is listed = subst (λ (x : ListError E). HoldsListed g content store (Err x)) is listed
+
+  -- a copy that was not begun may not be loaded
+  pub may_not : (names : Names) (store : Store S g) (content : Content) (ids : Ids) (first : Id) (tables : Names) (executed : Ids) (begun : Bool) → executed ≡ content.executed → begun ≡ set.contains executed first → begun ≡ false
+      → (why : Unloadable) → Keeps g store content → IsUnloadable names content ids tables why → JudgesCopy g names content ids first tables store (Err why)
+  may_not names store content ids first tables executed begun same says is why keeps reason = (keeps, record { not_begun = ap (λ (x : Ids). set.contains x first) (sym same) ∙ sym says ∙ is; reason = reason })
+
+  -- the copy is refused, and the store keeps what it holds
+  pub refused : (before after : Store S g) (old : Content) (ids : Ids) (first : Id) (tables : Names) → after.following ≡ before.following
+      → ((trees : Trees) → (state g after.conn).may_leave trees → AreOf (state g before.conn).now.schema before.following old trees)
+      → (why : Unloadable) → JudgesCopy g before.following old ids first tables after (Err why) → MayNotLoad before.following old ids first tables why × HasStayed g after old (λ left. left ≡ old)
+  refused before after old ids first tables later crash why (keeps, is) = (
+    is,
+    record {
+      executed = keeps.executed;
+      rest = keeps.rest;
+      schema = (state g before.conn).now.schema;
+      leaves = record { each = λ trees may. (old, subst (λ n. AreOf (state g before.conn).now.schema n old trees) (sym later) (crash trees may), refl) };
+    },
+  )
+
+  -- a copy may be loaded, and memory runs out before its set is adopted
+  pub unadopted : {E : Type 0} (before after : Store S g) (old : Content) (ids : Ids) (left : Supply) → after.following ≡ before.following → Holds g after old
+      → ((trees : Trees) → (state g after.conn).may_leave trees → AreOf (state g before.conn).now.schema before.following old trees) → HasChanged g {E = E} before.following after old ids left 0 (NotAdopted fault.Memory)
+  unadopted before after old ids left later holds crash = record {
+    change = record { taken = []; last = None; gives = tt; new = old; applies = (refl, refl); why = (refl, refl, tt) };
+    is = false;
+    holds = holds;
+    schema = (state g before.conn).now.schema;
+    leaves = record { each = λ trees may. (old, subst (λ n. AreOf (state g before.conn).now.schema n old trees) (sym later) (crash trees may), inl refl) };
+  }
+
+module _ {D : Type 0} (g : Ghosts D) (names : Names) (old : Content) (opened after : Store (FileStore D g) over_files) where
+  pub loaded_into : {E : Type 0} (only : Names) (left : Supply) (ids : Ids) (first : Id) (tables : Names) (applied : ℕ) (end : LoadEnd E) (closed : Result (Files D) (Error × FileStore D g))
+      → after.following ≡ opened.following → (HasCleanDisk (database over_files after) → Holds over_files opened old × (opened.following ≡ names))
+      → (HasCleanDisk (database over_files after) → (content : Content) → Holds over_files opened content → HasLoaded over_files opened.following after content ids first tables left applied end)
+      → IfOk closed (λ files. AreClean g files.log files.db → IsCopied after.conn files)
+      → IfErr closed (λ e. IsClosed after.conn e.1 × (IsClean (view e.1) → FailsToClose after.conn e.1 e.0))
+      → LoadsTo only left names old ids first tables applied end closed
+  loaded_into {E} only left ids first tables applied (Changed end) closed same opens loads copied failed = (
+    (λ honest.
+        let clean = clean_before_closing after.conn closed copied failed honest in
+        let o = opens clean in
+        (subst (λ n. HasLoaded over_files {E = E} n after old ids first tables left applied (Changed end)) o.1 (loads clean old o.0)).0),
+    changed_into g names old opened after left (with_first ids first) applied end closed same opens (λ clean content holds. (loads clean content holds).1) copied failed,
+  )
+  loaded_into {E} only left ids first tables applied (Refused why) closed same opens loads copied failed = (
+    (λ honest.
+        let clean = clean_before_closing after.conn closed copied failed honest in
+        let o = opens clean in
+        (subst (λ n. HasLoaded over_files {E = E} n after old ids first tables left applied (Refused why)) o.1 (loads clean old o.0)).0),
+    keeps_stayed g names old opened after only old closed same opens (λ clean holds. (loads clean old holds).1) copied failed,
+  )
+
+  pub noted_of_load : SeenMayStay g → {E : Type 0} (ids : Ids) (first : Id) (t0 t1 : Account) (end : LoadEnd E) (closed : Result (Files D) (Error × FileStore D g))
+      → after.following ≡ opened.following → (HasCleanDisk (database over_files after) → Holds over_files opened old × (opened.following ≡ names))
+      → (HasCleanDisk (database over_files after) → Holds over_files opened old → IsLedByLoad over_files opened after old ids first t0 t1 end)
+      → IfOk closed (λ files. AreClean g files.log files.db → IsCopied after.conn files)
+      → IfErr closed (λ e. IsClosed after.conn e.1 × (IsClean (view e.1) → FailsToClose after.conn e.1 e.0))
+      → IsNotedOfLoad names old ids first t0 t1 end closed
+  noted_of_load still ids first t0 t1 (Changed end) closed same opens notes copied failed = λ begun. noted_of_files g names old opened after still (adopted old (with_first ids first)) t0 t1 [] closed same opens (λ clean holds. notes clean holds begun) copied failed
+  noted_of_load still ids first t0 t1 (Refused why) closed same opens notes copied failed = tt
