@@ -1,5 +1,6 @@
 -- Texts character by character.
-use Rattle.columns.proofs.Names.{encode_utf8, ◌≡◌, ℕ, zero, suc, ◌+◌, ◌<◌, Bool, true, false, List, [], ◌∷◌, ◌++◌, length, length-append, nat_lt, refl, sym, ◌∙◌, ap, subst, append_assoc, arith, IsUtf8, latin1_character}
+use Rattle.columns.proofs.Names.{◌≡◌, ℕ, zero, suc, ◌+◌, ◌<◌, Bool, true, false, List, [], ◌∷◌, ◌++◌, length, length-append, nat_lt, refl, sym, ◌∙◌, ap, subst, append_assoc, arith, IsUtf8, latin1_character}
+use Rattle.std.specs.Char.{encode_utf8}
 use Rattle.std.proofs.lemmas.List.{append-nil}
 use Rattle.std.specs.Bool.{IsTrue}
 use Rattle.std.specs.List.{list_all}

@@ -35,7 +35,6 @@ pub use Rattle.std.proofs.lemmas.Grind.{flat_map-append}
 pub use Rattle.std.proofs.lemmas.List.{length-replicate, map-append, length-take-le, length-drop, take-append-drop, length-map}
 pub use Rattle.std.proofs.lemmas.List.Sums.{sum_by-cons}
 pub use Rattle.std.proofs.lemmas.Nat.{div-mul-add}
-pub use Rattle.std.specs.Char.{encode_utf8}
 pub use Rattle.std.specs.Cmp.Lexicographic.{other_text}
 pub use Rattle.std.specs.Float.{binary32, binary64}
 pub use Rattle.std.specs.Float.Ieee.{Float}

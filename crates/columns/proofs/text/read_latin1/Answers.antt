@@ -1,4 +1,5 @@
-use Rattle.columns.proofs.Names.{sym, ◌∙◌, arith, take, get_or, [], ◌∷◌, latin1_character, encode_utf8}
+use Rattle.columns.proofs.Names.{sym, ◌∙◌, arith, take, get_or, [], ◌∷◌, latin1_character}
+use Rattle.std.specs.Char.{encode_utf8}
 use Rattle.std.proofs.lemmas.List.{take_more, append-nil}
 use Rattle.columns.proofs.Characters.{ascii_latin1, written-append}
 use Rattle.columns.proofs.Characters.{not_ascii}

@@ -1,4 +1,5 @@
-use Rattle.columns.proofs.Names.{◌≡◌, take, string_bytes, latin1_character, encode_utf8}
+use Rattle.columns.proofs.Names.{◌≡◌, take, string_bytes, latin1_character}
+use Rattle.std.specs.Char.{encode_utf8}
 use Rattle.columns.specs.CharacterSets.{written}
 use Rattle.columns.proofs.text.read_latin1.Given as goal
 
