@@ -230,45 +230,18 @@ string_first (suc (suc (suc (suc k)))) small = absurd (omega (arith, small))
 pub lawful_size : (kind : ColumnKind) → metadata_size (type_code kind) ≡ Some (length (metadata kind))
 unfolding metadata_size
 lawful_size Tiny = refl
-lawful_size Short = refl
-lawful_size Int24 = refl
-lawful_size Long = refl
-lawful_size LongLong = refl
-lawful_size (Varchar maximum) = refl
-lawful_size (Blob prefix) = refl
-lawful_size (Bit bits) = refl
-lawful_size (NewDecimal precision scale) = refl
-lawful_size Float = refl
-lawful_size Double = refl
-lawful_size Date = refl
-lawful_size Year = refl
-lawful_size (Timestamp2 fraction) = refl
-lawful_size (Datetime2 fraction) = refl
-lawful_size (Time2 fraction) = refl
-lawful_size (Char maximum) = refl
-lawful_size (Enum width) = refl
-lawful_size (Set width) = refl
+lawful_size _ = refl
 
 -- the metadata of a lawful type has no fault
 lawful_metadata : (kind : ColumnKind) (rest : List ℕ) → IsTrue (is_lawful kind) →
     metadata_fault (type_code kind) (get_or (metadata kind ++ rest) 0 0) (get_or (metadata kind ++ rest) 1 0) ≡ None
 unfolding metadata_fault
-lawful_metadata Tiny rest lawful = refl
-lawful_metadata Short rest lawful = refl
-lawful_metadata Int24 rest lawful = refl
-lawful_metadata Long rest lawful = refl
-lawful_metadata LongLong rest lawful = refl
-lawful_metadata (Varchar maximum) rest lawful = refl
 lawful_metadata (Blob prefix) rest lawful = rw lawful refl
 lawful_metadata (Bit bits) rest lawful =
     let e : 8 * (bits / 8) + bits % 8 ≡ bits = omega arith in
     let small : bits % 8 ≤ 7 = omega arith in
     rw (le-leb _ _ small, e, lawful) refl
 lawful_metadata (NewDecimal precision scale) rest lawful = rw lawful refl
-lawful_metadata Float rest lawful = refl
-lawful_metadata Double rest lawful = refl
-lawful_metadata Date rest lawful = refl
-lawful_metadata Year rest lawful = refl
 lawful_metadata (Timestamp2 fraction) rest lawful = rw lawful refl
 lawful_metadata (Datetime2 fraction) rest lawful = rw lawful refl
 lawful_metadata (Time2 fraction) rest lawful = rw lawful refl
@@ -289,6 +262,7 @@ lawful_metadata (Set width) rest lawful =
     let high : width / 256 ≡ 0 = omega arith in
     let low : width % 256 ≡ width = omega arith in
     rw (high, low, add-zero width, lawful) refl
+lawful_metadata _ rest lawful = refl
 
 pub no_fault : (kind : ColumnKind) (code : ℕ) (rest bytes : List ℕ) → IsColumn kind code rest bytes → column_fault code bytes ≡ None
 no_fault kind code rest bytes is =
@@ -300,25 +274,11 @@ no_fault kind code rest bytes is =
 pub kind_is : (kind : ColumnKind) (rest : List ℕ) → IsTrue (is_lawful kind) →
     kind_of (type_code kind) (get_or (metadata kind ++ rest) 0 0) (get_or (metadata kind ++ rest) 1 0) ≡ kind
 unfolding kind_of
-kind_is Tiny rest lawful = refl
-kind_is Short rest lawful = refl
-kind_is Int24 rest lawful = refl
-kind_is Long rest lawful = refl
-kind_is LongLong rest lawful = refl
 kind_is (Varchar maximum) rest lawful =
     let small = ltb-true _ _ lawful in
     let e : maximum % 256 + 256 * (maximum / 256 % 256) ≡ maximum = omega arith in
     ap (λ (m : ℕ). Varchar m) e
-kind_is (Blob prefix) rest lawful = refl
 kind_is (Bit bits) rest lawful = let e : 8 * (bits / 8) + bits % 8 ≡ bits = omega arith in ap (λ (m : ℕ). Bit m) e
-kind_is (NewDecimal precision scale) rest lawful = refl
-kind_is Float rest lawful = refl
-kind_is Double rest lawful = refl
-kind_is Date rest lawful = refl
-kind_is Year rest lawful = refl
-kind_is (Timestamp2 fraction) rest lawful = refl
-kind_is (Datetime2 fraction) rest lawful = refl
-kind_is (Time2 fraction) rest lawful = refl
 kind_is (Char maximum) rest lawful =
     let small = ltb-true _ _ lawful in
     let k : maximum / 256 < 4 = omega arith in
@@ -337,6 +297,7 @@ kind_is (Set width) rest lawful =
     let high : width / 256 ≡ 0 = omega arith in
     let low : width % 256 ≡ width = omega arith in
     rw (high, low) refl
+kind_is _ rest lawful = refl
 
 pub one_column : (code : ℕ) (a b : ColumnKind) (x y bytes : List ℕ) → IsColumn a code x bytes → IsColumn b code y bytes → (a ≡ b) × (x ≡ y)
 one_column code a b x y bytes is_a is_b =

@@ -1,6 +1,6 @@
 -- What is written of a table map is that table map.
-use Rattle.binlog.proofs.Names.{◌≡◌, ℕ, ◌+◌, ◌*◌, ◌<◌, ◌≤◌, ◌^◌, List, [], ◌∷◌, ◌++◌, length, map, refl, ap, append_assoc, arith, inl, inr, flat_map, IsTrue, AllByRecursion, cases_lt, le-leb, lt-leb, lt-ltb, length-append, length-map, append-nil, little_bytes, length-bytes_low_first, IsLengthEncoded, length_encoded, bitmap_size, type_code, metadata, is_lawful, ColumnKind, Long, Varchar, Blob, Bit, Char, Enum, Set, TableValue, full_bitmap}
-use Rattle.binlog.specs.declared.column.kind.ColumnKind.TheVariants.{Tiny, Short, Int24, LongLong, NewDecimal, Float, Double, Date, Year, Timestamp2, Datetime2, Time2}
+use Rattle.binlog.proofs.Names.{◌≡◌, ℕ, ◌+◌, ◌*◌, ◌<◌, ◌≤◌, ◌^◌, List, [], ◌∷◌, ◌++◌, length, map, refl, ap, append_assoc, arith, inl, inr, flat_map, IsTrue, AllByRecursion, cases_lt, le-leb, lt-leb, lt-ltb, length-append, length-map, append-nil, little_bytes, length-bytes_low_first, IsLengthEncoded, length_encoded, bitmap_size, type_code, metadata, is_lawful, ColumnKind, TableValue, full_bitmap}
+use Rattle.binlog.specs.declared.column.kind.ColumnKind.TheVariants.{Tiny}
 use Rattle.binlog.specs.Table.{IsTableMap}
 use Rattle.binlog.specs.Writing.{HasMap, table_map_body}
 use Rattle.binlog.proofs.FullBitmap.{full_long}
@@ -9,24 +9,7 @@ use Rattle.binlog.proofs.FullBitmap.{full_long}
 
 metadata_short : (kind : ColumnKind) → length (metadata kind) ≤ 2
 metadata_short Tiny = omega arith
-metadata_short Short = omega arith
-metadata_short Int24 = omega arith
-metadata_short Long = omega arith
-metadata_short LongLong = omega arith
-metadata_short (Varchar maximum) = omega arith
-metadata_short (Blob prefix) = omega arith
-metadata_short (Bit bits) = omega arith
-metadata_short (NewDecimal precision scale) = omega arith
-metadata_short Float = omega arith
-metadata_short Double = omega arith
-metadata_short Date = omega arith
-metadata_short Year = omega arith
-metadata_short (Timestamp2 fraction) = omega arith
-metadata_short (Datetime2 fraction) = omega arith
-metadata_short (Time2 fraction) = omega arith
-metadata_short (Char maximum) = omega arith
-metadata_short (Enum width) = omega arith
-metadata_short (Set width) = omega arith
+metadata_short _ = omega arith
 
 pub all_metadata_short : (kinds : List ColumnKind) → length (flat_map metadata kinds) ≤ 2 * length kinds
 all_metadata_short [] = omega arith

@@ -4,46 +4,19 @@ use Rattle.columns.specs.Lines.{field}
 use Rattle.columns.specs.LineFaults.{FieldKind, IsFieldFault, IsFaultOf, IsFaultAmong, IsColumnFault, front_fields, column_fields, line_fields}
 use Rattle.columns.specs.LineFaults.FieldKind.{a_name, a_type, a_key}
 use Rattle.columns.specs.declared.fields.LineFault.{LineFault}
-use Rattle.columns.specs.declared.fields.LineFault.TheVariants.{Fields, Unended, Escape, Name, Kind, CharacterSet, Key, ColumnTwice, TableApart, NoLine, Memory}
+use Rattle.columns.specs.declared.fields.LineFault.TheVariants.{Name, Kind, CharacterSet, Key, ColumnTwice, TableApart, NoLine}
 
 pub of_name : (text : List ℕ) (fault : LineFault) → IsFieldFault 9 text fault → IsFaultOf a_name text fault
-of_name text Fields own = own
-of_name text Unended own = own
-of_name text Escape own = own
 of_name text Name own = absurd own
-of_name text CharacterSet own = own
-of_name text Key own = own
-of_name text ColumnTwice own = own
-of_name text TableApart own = own
-of_name text NoLine own = own
-of_name text Memory own = own
-of_name text (Kind kind) own = own
+of_name text _ own = own
 
 pub of_type : (text : List ℕ) (fault : LineFault) → IsFieldFault 9 text fault → IsFaultOf a_type text fault
-of_type text Fields own = own
-of_type text Unended own = own
-of_type text Escape own = own
-of_type text Name own = own
-of_type text CharacterSet own = own
-of_type text Key own = own
-of_type text ColumnTwice own = own
-of_type text TableApart own = own
-of_type text NoLine own = own
-of_type text Memory own = own
 of_type text (Kind kind) own = absurd own
+of_type text _ own = own
 
 pub of_key : (text : List ℕ) (fault : LineFault) → IsFieldFault 10 text fault → IsFaultOf a_key text fault
-of_key text Fields own = own
-of_key text Unended own = own
-of_key text Escape own = own
-of_key text Name own = own
-of_key text CharacterSet own = own
 of_key text Key own = absurd own
-of_key text ColumnTwice own = own
-of_key text TableApart own = own
-of_key text NoLine own = own
-of_key text Memory own = own
-of_key text (Kind kind) own = own
+of_key text _ own = own
 
 -- a fault that no field has
 pub never_among : (fault : LineFault) → ((kind : FieldKind) (text : List ℕ) → IsFaultOf kind text fault → ⊥) → (kinds : List FieldKind) (text : List ℕ) → IsFaultAmong kinds text fault → ⊥
@@ -84,17 +57,8 @@ no_none = never_among NoLine never
     never a_key text own = own
 
 of_column : (text : List ℕ) (fault : LineFault) → IsFaultAmong column_fields text fault → IsColumnFault text fault
-of_column text Fields among = among
-of_column text Unended among = among
-of_column text Escape among = among
-of_column text Name among = among
 of_column text CharacterSet among = absurd (no_set column_fields text among)
-of_column text Key among = among
-of_column text ColumnTwice among = among
-of_column text TableApart among = among
-of_column text NoLine among = among
-of_column text Memory among = among
-of_column text (Kind kind) among = among
+of_column text _ among = among
 
 pub at_name : (text : List ℕ) (fault : LineFault) → IsFaultOf a_name text fault → IsColumnFault text fault
 at_name text fault own = of_column text fault (inl own)

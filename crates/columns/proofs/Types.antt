@@ -8,7 +8,7 @@ use Rattle.columns.specs.Word.{is_letter, is_opening}
 use Rattle.columns.specs.DataType.{takes, signs}
 use Rattle.columns.specs.TypeText.{AreSmall}
 use Rattle.columns.specs.declared.type_name.TypeName.{TypeName}
-use Rattle.columns.specs.declared.type_name.TypeName.TheVariants.{Tinyint, Smallint, Mediumint, Int, Bigint, Decimal, Float, Double, Bit, Year, Date, Time, Datetime, Timestamp, Char, Varchar, Binary, Varbinary, Tinytext, Text, Mediumtext, Longtext, Tinyblob, Blob, Mediumblob, Longblob, Json, Geometry, Point, Linestring, Polygon, Multipoint, Multilinestring, Multipolygon, Geomcollection, Geometrycollection, Vector}
+use Rattle.columns.specs.declared.type_name.TypeName.TheVariants.{Tinyint, Smallint, Mediumint, Int, Bigint, Decimal, Float, Double, Bit, Year, Time, Datetime, Timestamp, Char, Varchar, Binary, Varbinary, Vector}
 use Rattle.columns.specs.declared.arguments.Arguments.TheVariants.{NoNumber, OneNumber, TwoNumbers}
 use Rattle.columns.specs.declared.sign.Sign.TheVariants.{Signed, Unsigned, Zerofill}
 use Rattle.columns.proofs.Words.{one_cut}
@@ -32,42 +32,7 @@ are_of kind (b ∷ bytes) all = let parts = and_parts (kind b) (all_are kind byt
 -- a name is of letters
 pub letters : (name : TypeName) → Are is_letter (name_text name)
 letters Tinyint = are_of is_letter (name_text Tinyint) refl
-letters Smallint = are_of is_letter (name_text Smallint) refl
-letters Mediumint = are_of is_letter (name_text Mediumint) refl
-letters Int = are_of is_letter (name_text Int) refl
-letters Bigint = are_of is_letter (name_text Bigint) refl
-letters Decimal = are_of is_letter (name_text Decimal) refl
-letters Float = are_of is_letter (name_text Float) refl
-letters Double = are_of is_letter (name_text Double) refl
-letters Bit = are_of is_letter (name_text Bit) refl
-letters Year = are_of is_letter (name_text Year) refl
-letters Date = are_of is_letter (name_text Date) refl
-letters Time = are_of is_letter (name_text Time) refl
-letters Datetime = are_of is_letter (name_text Datetime) refl
-letters Timestamp = are_of is_letter (name_text Timestamp) refl
-letters Char = are_of is_letter (name_text Char) refl
-letters Varchar = are_of is_letter (name_text Varchar) refl
-letters Binary = are_of is_letter (name_text Binary) refl
-letters Varbinary = are_of is_letter (name_text Varbinary) refl
-letters Tinytext = are_of is_letter (name_text Tinytext) refl
-letters Text = are_of is_letter (name_text Text) refl
-letters Mediumtext = are_of is_letter (name_text Mediumtext) refl
-letters Longtext = are_of is_letter (name_text Longtext) refl
-letters Tinyblob = are_of is_letter (name_text Tinyblob) refl
-letters Blob = are_of is_letter (name_text Blob) refl
-letters Mediumblob = are_of is_letter (name_text Mediumblob) refl
-letters Longblob = are_of is_letter (name_text Longblob) refl
-letters Json = are_of is_letter (name_text Json) refl
-letters Geometry = are_of is_letter (name_text Geometry) refl
-letters Point = are_of is_letter (name_text Point) refl
-letters Linestring = are_of is_letter (name_text Linestring) refl
-letters Polygon = are_of is_letter (name_text Polygon) refl
-letters Multipoint = are_of is_letter (name_text Multipoint) refl
-letters Multilinestring = are_of is_letter (name_text Multilinestring) refl
-letters Multipolygon = are_of is_letter (name_text Multipolygon) refl
-letters Geomcollection = are_of is_letter (name_text Geomcollection) refl
-letters Geometrycollection = are_of is_letter (name_text Geometrycollection) refl
-letters Vector = are_of is_letter (name_text Vector) refl
+letters name = are_of is_letter (name_text name) refl
 
 pub no_letter : (numbers : Arguments) (sign : Sign) → Ends is_letter (arguments_text numbers ++ sign_text sign)
 no_letter NoNumber Signed = tt
@@ -93,12 +58,8 @@ small_one Smallint n h = omega (arith, between 1 255 n h)
 small_one Mediumint n h = omega (arith, between 1 255 n h)
 small_one Int n h = omega (arith, between 1 255 n h)
 small_one Bigint n h = omega (arith, between 1 255 n h)
-small_one Decimal n h = absurd (never h)
-small_one Float n h = absurd (never h)
-small_one Double n h = absurd (never h)
 small_one Bit n h = omega (arith, between 1 64 n h)
 small_one Year n h = omega (arith, between 4 4 n h)
-small_one Date n h = absurd (never h)
 small_one Time n h = omega (arith, between 1 6 n h)
 small_one Datetime n h = omega (arith, between 1 6 n h)
 small_one Timestamp n h = omega (arith, between 1 6 n h)
@@ -106,25 +67,8 @@ small_one Char n h = omega (arith, between 0 255 n h)
 small_one Varchar n h = omega (arith, between 0 65535 n h)
 small_one Binary n h = omega (arith, between 0 255 n h)
 small_one Varbinary n h = omega (arith, between 0 65535 n h)
-small_one Tinytext n h = absurd (never h)
-small_one Text n h = absurd (never h)
-small_one Mediumtext n h = absurd (never h)
-small_one Longtext n h = absurd (never h)
-small_one Tinyblob n h = absurd (never h)
-small_one Blob n h = absurd (never h)
-small_one Mediumblob n h = absurd (never h)
-small_one Longblob n h = absurd (never h)
-small_one Json n h = absurd (never h)
-small_one Geometry n h = absurd (never h)
-small_one Point n h = absurd (never h)
-small_one Linestring n h = absurd (never h)
-small_one Polygon n h = absurd (never h)
-small_one Multipoint n h = absurd (never h)
-small_one Multilinestring n h = absurd (never h)
-small_one Multipolygon n h = absurd (never h)
-small_one Geomcollection n h = absurd (never h)
-small_one Geometrycollection n h = absurd (never h)
 small_one Vector n h = omega (arith, between 1 16383 n h)
+small_one _ n h = absurd (never h)
 
 digits : (most n m : ℕ) → IsTrue (nat_le 1 n && nat_le n most && nat_le m n && nat_le m 30) → (n ≤ most) × (m ≤ 30)
 digits most n m h =
@@ -133,43 +77,10 @@ digits most n m h =
     (le_of n most (and_parts (nat_le 1 n) (nat_le n most) second.0).1, le_of m 30 first.1)
 
 small_two : (name : TypeName) (n m : ℕ) → IsTrue (takes name (TwoNumbers n m)) → (n < 100000) × (m < 100000)
-small_two Tinyint n m h = absurd (never h)
-small_two Smallint n m h = absurd (never h)
-small_two Mediumint n m h = absurd (never h)
-small_two Int n m h = absurd (never h)
-small_two Bigint n m h = absurd (never h)
 small_two Decimal n m h = let found = digits 65 n m h in (omega (arith, found.0), omega (arith, found.1))
 small_two Float n m h = let found = digits 255 n m h in (omega (arith, found.0), omega (arith, found.1))
 small_two Double n m h = let found = digits 255 n m h in (omega (arith, found.0), omega (arith, found.1))
-small_two Bit n m h = absurd (never h)
-small_two Year n m h = absurd (never h)
-small_two Date n m h = absurd (never h)
-small_two Time n m h = absurd (never h)
-small_two Datetime n m h = absurd (never h)
-small_two Timestamp n m h = absurd (never h)
-small_two Char n m h = absurd (never h)
-small_two Varchar n m h = absurd (never h)
-small_two Binary n m h = absurd (never h)
-small_two Varbinary n m h = absurd (never h)
-small_two Tinytext n m h = absurd (never h)
-small_two Text n m h = absurd (never h)
-small_two Mediumtext n m h = absurd (never h)
-small_two Longtext n m h = absurd (never h)
-small_two Tinyblob n m h = absurd (never h)
-small_two Blob n m h = absurd (never h)
-small_two Mediumblob n m h = absurd (never h)
-small_two Longblob n m h = absurd (never h)
-small_two Json n m h = absurd (never h)
-small_two Geometry n m h = absurd (never h)
-small_two Point n m h = absurd (never h)
-small_two Linestring n m h = absurd (never h)
-small_two Polygon n m h = absurd (never h)
-small_two Multipoint n m h = absurd (never h)
-small_two Multilinestring n m h = absurd (never h)
-small_two Multipolygon n m h = absurd (never h)
-small_two Geomcollection n m h = absurd (never h)
-small_two Geometrycollection n m h = absurd (never h)
-small_two Vector n m h = absurd (never h)
+small_two _ n m h = absurd (never h)
 
 pub small : (name : TypeName) (numbers : Arguments) (sign : Sign) → IsTrue (is_type name numbers sign) → AreSmall numbers
 small name NoNumber sign h = tt

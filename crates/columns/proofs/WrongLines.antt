@@ -7,7 +7,7 @@ use Rattle.columns.specs.LineFaults.{IsFaultAmong, IsColumnFault, front_fields, 
 use Rattle.columns.proofs.LineFaults.{no_set, no_twice, no_apart, no_none, in_front}
 use Rattle.columns.specs.Descriptions.{IsFront, IsWrongLine, BeginsWithNoLine, IsStopped, IsTableStopped}
 use Rattle.columns.specs.declared.fields.LineFault.{LineFault}
-use Rattle.columns.specs.declared.fields.LineFault.TheVariants.{Fields, Unended, Escape, Name, Kind, CharacterSet, Key, ColumnTwice, TableApart, NoLine, Memory}
+use Rattle.columns.specs.declared.fields.LineFault.TheVariants.{CharacterSet, ColumnTwice, TableApart, NoLine, Memory}
 use Rattle.columns.proofs.Types.{never}
 use Rattle.columns.proofs.Ahead.{no_two}
 use Rattle.columns.proofs.TablesAhead.{same_front}
@@ -15,17 +15,12 @@ use Rattle.columns.proofs.TablesAhead.{same_front}
 -- a fault of the first two fields
 pub wrong_by_itself : (names : List (List ℕ)) (front : List ℕ) (columns : List ColumnValue) (text : List ℕ) (fault : LineFault) → IsFaultAmong front_fields text fault → (fault ≢ Memory → BeginsWithNoLine text) →
     0 < length text → IsWrongLine names front columns text fault
-wrong_by_itself names front columns text Fields own none some = (none (λ e. cc), in_front text Fields own)
-wrong_by_itself names front columns text Unended own none some = (none (λ e. cc), in_front text Unended own)
-wrong_by_itself names front columns text Escape own none some = (none (λ e. cc), in_front text Escape own)
-wrong_by_itself names front columns text Name own none some = (none (λ e. cc), in_front text Name own)
 wrong_by_itself names front columns text CharacterSet own none some = absurd (no_set front_fields text own)
-wrong_by_itself names front columns text Key own none some = (none (λ e. cc), in_front text Key own)
 wrong_by_itself names front columns text ColumnTwice own none some = absurd (no_twice front_fields text own)
 wrong_by_itself names front columns text TableApart own none some = absurd (no_apart front_fields text own)
 wrong_by_itself names front columns text NoLine own none some = absurd (no_none front_fields text own)
 wrong_by_itself names front columns text Memory own none some = some
-wrong_by_itself names front columns text (Kind kind) own none some = (none (λ e. cc), in_front text (Kind kind) own)
+wrong_by_itself names front columns text v own none some = (none (λ e. cc), in_front text v own)
 
 -- a fault of the last four fields after names is one of the line
 of_line : (front text line : List ℕ) (fault : LineFault) → IsFront front → text ≡ front ++ line → IsFaultAmong column_fields line fault → IsFaultAmong line_fields text fault
@@ -34,17 +29,12 @@ of_line front text line fault begins is own =
 
 pub wrong_column : (names : List (List ℕ)) (front : List ℕ) (columns : List ColumnValue) (text line : List ℕ) (fault : LineFault) → IsFront front → text ≡ front ++ line → IsColumnFault line fault →
     (fault ≢ Memory → BeginsWithNoLine text) → 0 < length text → IsWrongLine names front columns text fault
-wrong_column names front columns text line Fields begins is own none some = (none (λ e. cc), of_line front text line Fields begins is own)
-wrong_column names front columns text line Unended begins is own none some = (none (λ e. cc), of_line front text line Unended begins is own)
-wrong_column names front columns text line Escape begins is own none some = (none (λ e. cc), of_line front text line Escape begins is own)
-wrong_column names front columns text line Name begins is own none some = (none (λ e. cc), of_line front text line Name begins is own)
 wrong_column names front columns text line CharacterSet begins is own none some = (none (λ e. cc), (front, line, begins, is, own))
-wrong_column names front columns text line Key begins is own none some = (none (λ e. cc), of_line front text line Key begins is own)
 wrong_column names front columns text line ColumnTwice begins is own none some = absurd (no_twice column_fields line own)
 wrong_column names front columns text line TableApart begins is own none some = absurd (no_apart column_fields line own)
 wrong_column names front columns text line NoLine begins is own none some = absurd (no_none column_fields line own)
 wrong_column names front columns text line Memory begins is own none some = some
-wrong_column names front columns text line (Kind kind) begins is own none some = (none (λ e. cc), of_line front text line (Kind kind) begins is own)
+wrong_column names front columns text line v begins is own none some = (none (λ e. cc), of_line front text line v begins is own)
 
 cancel : (a x y : List ℕ) → a ++ x ≡ a ++ y → x ≡ y
 cancel [] x y e = e
@@ -73,18 +63,10 @@ some_there front text line is e =
 -- a wrong line of the first table is one of a table after others
 wrong_within : (names : List (List ℕ)) (front : List ℕ) (columns : List ColumnValue) (text whole : List ℕ) (fault : LineFault) → whole ≡ lines_text front columns ++ text → 0 < length whole →
     IsWrongLine [] front columns text fault → IsWrongLine names front columns text fault
-wrong_within names front columns text whole Fields is some wrong = wrong
-wrong_within names front columns text whole Unended is some wrong = wrong
-wrong_within names front columns text whole Escape is some wrong = wrong
-wrong_within names front columns text whole Name is some wrong = wrong
-wrong_within names front columns text whole (Kind kind) is some wrong = wrong
-wrong_within names front columns text whole CharacterSet is some wrong = wrong
-wrong_within names front columns text whole Key is some wrong = wrong
-wrong_within names front columns text whole ColumnTwice is some wrong = wrong
 wrong_within names front columns text whole TableApart is some wrong = absurd (never wrong.3)
 wrong_within names front columns text whole NoLine is some wrong =
     absurd (omega (arith, some, ap length (is ∙ (λ i. lines_text front (wrong.1 i) ++ wrong.2 i))))
-wrong_within names front columns text whole Memory is some wrong = wrong
+wrong_within names front columns text whole _ is some wrong = wrong
 
 -- the same for where a reader stopped
 pub within_tables : (tables : List DescribedTableValue) (front text whole : List ℕ) (left : ℕ) (fault : LineFault) → AreTables tables → whole ≡ description_text tables ++ text → 0 < length text → list_any (bytes_eq front) (table_names tables) ≡ false →

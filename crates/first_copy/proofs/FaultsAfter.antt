@@ -9,7 +9,7 @@ use Rattle.first_copy.specs.CopySteps.{IsCollected}
 use Rattle.first_copy.specs.CopyFaults.{line_after, is_no_newline, IsFaultAt, IsFaultOfCopy, copied_fault, IsFillFault, IsReaderFault}
 use Rattle.first_copy.specs.declared.fault.RowFault.TheVariants as row
 use Rattle.first_copy.specs.declared.copy_fault.CopyFault.{CopyFault}
-use Rattle.first_copy.specs.declared.copy_fault.CopyFault.TheVariants.{Version, Encoding, Executed, Cut, Row, Count, Trailing, Reader, TooMany, Memory, Failed}
+use Rattle.first_copy.specs.declared.copy_fault.CopyFault.TheVariants.{Cut, Count, Trailing, Reader, TooMany, Memory}
 use Rattle.first_copy.proofs.RowLines.{none_collected}
 
 -- bytes up to a newline, which do not end with one, are all, and have none
@@ -58,35 +58,16 @@ pub filled_fault : (tables : List DescribedTable) (all number : ℕ) (text : Lis
 filled_fault tables all number text (Cut line) is wrong = (wrong.0 ∙ is, wrong.1)
 filled_fault tables all number text (Reader line error) is wrong = tt
 filled_fault tables all number text Memory is wrong = tt
-filled_fault tables all number text Version is wrong = absurd wrong
-filled_fault tables all number text TooMany is wrong = absurd wrong
-filled_fault tables all number text Encoding is wrong = absurd wrong
-filled_fault tables all number text (Executed fault) is wrong = absurd wrong
-filled_fault tables all number text (Row line fault) is wrong = absurd wrong
-filled_fault tables all number text (Count line said counted) is wrong = absurd wrong
-filled_fault tables all number text (Trailing line) is wrong = absurd wrong
-filled_fault tables all number text Failed is wrong = absurd wrong
+filled_fault tables all number text _ is wrong = absurd wrong
 
 pub read_here : (tables : List DescribedTable) (all : ℕ) (text : List ℕ) (fault : CopyFault) → IsReaderFault fault → IsFaultAt tables all text fault
 read_here tables all text (Reader line error) wrong = tt
 read_here tables all text Memory wrong = tt
-read_here tables all text (Cut line) wrong = absurd wrong
-read_here tables all text Version wrong = absurd wrong
-read_here tables all text TooMany wrong = absurd wrong
-read_here tables all text Encoding wrong = absurd wrong
-read_here tables all text (Executed fault) wrong = absurd wrong
-read_here tables all text (Row line fault) wrong = absurd wrong
-read_here tables all text (Count line said counted) wrong = absurd wrong
-read_here tables all text (Trailing line) wrong = absurd wrong
-read_here tables all text Failed wrong = absurd wrong
+read_here tables all text _ wrong = absurd wrong
 
 one_row : (tables : List DescribedTable) (all number : ℕ) (line more : List ℕ) (fault : RowFault) → number ≡ line_after all → IsRowFault tables line fault → IsFaultAt tables all (line ++ more) (copied_fault number fault)
 one_row tables all number line more row.Memory is wrong = tt
-one_row tables all number line more row.Table is wrong = (is, λ e. cc, (line, more, refl, wrong))
-one_row tables all number line more row.Fields is wrong = (is, λ e. cc, (line, more, refl, wrong))
-one_row tables all number line more row.Unended is wrong = (is, λ e. cc, (line, more, refl, wrong))
-one_row tables all number line more (row.Field at fault) is wrong = (is, λ e. cc, (line, more, refl, wrong))
-one_row tables all number line more row.Image is wrong = (is, λ e. cc, (line, more, refl, wrong))
+one_row tables all number line more _ is wrong = (is, λ e. cc, (line, more, refl, wrong))
 
 -- The next line has a fault.
 pub row_after : (tables : List DescribedTable) (all number : ℕ) (line : List ℕ) (fault : RowFault) (mid reader : Option (List ℕ)) → number ≡ line_after all → Keeps mid (prepend_known line reader) → IsRowFault tables line fault →

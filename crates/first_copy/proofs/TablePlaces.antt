@@ -13,7 +13,7 @@ use Rattle.columns.proofs.Types.{never}
 use Rattle.columns.proofs.TablesAhead.{same_front}
 use Rattle.first_copy.specs.FoundTables.{IsFoundAt}
 use Rattle.first_copy.specs.RowLines.{IsRowAt, IsWrongRow}
-use Rattle.first_copy.specs.declared.fault.RowFault.TheVariants.{Table, Fields, Unended, Field, Image, Memory}
+use Rattle.first_copy.specs.declared.fault.RowFault.TheVariants.{Table, Fields, Image, Memory}
 use Rattle.first_copy.specs.RowFields.{IsWrongField, IsWrongAmong, field_end}
 
 -- what follows the first of two parts begins with the second
@@ -137,7 +137,5 @@ wrong_here tables place line fields columns fault it wrong = by fault (subst (λ
     by : (fault : RowFault) → IsWrongAmong 1 it.table.columns.items fields fault → IsRowFault tables line fault
     by Table wrong = absurd (never_other Table (λ number end column text own. own) (λ e. cc) 1 it.table.columns.items fields wrong)
     by Image wrong = absurd (never_other Image (λ number end column text own. own) (λ e. cc) 1 it.table.columns.items fields wrong)
-    by Fields wrong = whole Fields wrong
-    by Unended wrong = whole Unended wrong
-    by (Field at fault) wrong = whole (Field at fault) wrong
     by Memory wrong = tt
+    by v wrong = whole v wrong

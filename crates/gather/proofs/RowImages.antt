@@ -6,7 +6,7 @@ use Rattle.binlog.specs.Column.{is_lawful}
 use Rattle.binlog.specs.Shape.{prefix_of, shape, IsValue}
 use Rattle.binlog.specs.Row.{AreValues, IsRow}
 use Rattle.binlog.specs.declared.column.kind.ColumnKind.{ColumnKind}
-use Rattle.binlog.specs.declared.column.kind.ColumnKind.TheVariants.{Tiny, Short, Int24, Long, LongLong, Varchar, Blob, Bit, NewDecimal, Float, Double, Date, Year, Timestamp2, Datetime2, Time2, Char, Enum, Set}
+use Rattle.binlog.specs.declared.column.kind.ColumnKind.TheVariants.{Tiny, Short, Int24, Long, LongLong, Varchar, Blob, Char, Enum, Set}
 use Rattle.binlog.proofs.LawfulColumns.{AllLawful}
 
 -- ---- One value.
@@ -25,20 +25,9 @@ number_has_image Short n w bytes lawful is = numbered n w 2 (omega arith, omega 
 number_has_image Int24 n w bytes lawful is = numbered n w 3 (omega arith, omega arith) is.0 is.1
 number_has_image Long n w bytes lawful is = numbered n w 4 (omega arith, omega arith) is.0 is.1
 number_has_image LongLong n w bytes lawful is = numbered n w 8 (omega arith, omega arith) is.0 is.1
-number_has_image (Varchar maximum) n w bytes lawful is = absurd is
-number_has_image (Blob prefix) n w bytes lawful is = absurd is
-number_has_image (Bit bits) n w bytes lawful is = absurd is
-number_has_image (NewDecimal precision scale) n w bytes lawful is = absurd is
-number_has_image Float n w bytes lawful is = absurd is
-number_has_image Double n w bytes lawful is = absurd is
-number_has_image Date n w bytes lawful is = absurd is
-number_has_image Year n w bytes lawful is = absurd is
-number_has_image (Timestamp2 fraction) n w bytes lawful is = absurd is
-number_has_image (Datetime2 fraction) n w bytes lawful is = absurd is
-number_has_image (Time2 fraction) n w bytes lawful is = absurd is
-number_has_image (Char maximum) n w bytes lawful is = absurd is
 number_has_image (Enum width) n w bytes lawful is = numbered n w width (within 2 width (omega arith) lawful) is.0 is.1
 number_has_image (Set width) n w bytes lawful is = numbered n w width (within 8 width (omega arith) lawful) is.0 is.1
+number_has_image _ n w bytes lawful is = absurd is
 
 after : (size : ℕ) (value bytes : List ℕ) → bytes ≡ little_bytes size (length value) ++ value → length value ≤ length bytes
 after size value bytes is = omega (arith, ap length is, length-append (little_bytes size (length value)) value)
@@ -51,18 +40,10 @@ bytes_within Long value bytes is = absurd is
 bytes_within LongLong value bytes is = absurd is
 bytes_within (Varchar maximum) value bytes is = after (prefix_of maximum) value bytes is.1
 bytes_within (Blob prefix) value bytes is = after prefix value bytes is.1
-bytes_within (Bit bits) value bytes is = omega (arith, ap length is.0)
-bytes_within (NewDecimal precision scale) value bytes is = omega (arith, ap length is.0)
-bytes_within Float value bytes is = omega (arith, ap length is.0)
-bytes_within Double value bytes is = omega (arith, ap length is.0)
-bytes_within Date value bytes is = omega (arith, ap length is.0)
-bytes_within Year value bytes is = omega (arith, ap length is.0)
-bytes_within (Timestamp2 fraction) value bytes is = omega (arith, ap length is.0)
-bytes_within (Datetime2 fraction) value bytes is = omega (arith, ap length is.0)
-bytes_within (Time2 fraction) value bytes is = omega (arith, ap length is.0)
 bytes_within (Char maximum) value bytes is = after (prefix_of maximum) value bytes is.1
 bytes_within (Enum width) value bytes is = absurd is
 bytes_within (Set width) value bytes is = absurd is
+bytes_within _ value bytes is = omega (arith, ap length is.0)
 
 value_has_image : (t : ColumnKind) (cell : CellValue) (bytes : List ℕ) → IsTrue (is_lawful t) → IsValue (shape t) cell bytes → length bytes < 2 ^ 32 → HasCellImage cell
 value_has_image t null_cell bytes lawful is short = tt

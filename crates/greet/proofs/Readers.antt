@@ -6,14 +6,8 @@ use Rattle.greet.specs.declared.fault.GreetFault.TheVariants as faults
 
 -- if nothing is refused, the only fault is that memory ran out
 pub memory_alone : (fault : GreetFault) → Refuses None fault → fault ≡ faults.Memory
-memory_alone (faults.ServerError code state message) is = absurd cc
-memory_alone (faults.Protocol byte) is = absurd cc
-memory_alone faults.Truncated is = absurd cc
-memory_alone (faults.Capabilities bits) is = absurd cc
-memory_alone faults.Plugin is = absurd cc
-memory_alone faults.OldAuth is = absurd cc
-memory_alone (faults.Unexpected byte) is = absurd cc
 memory_alone faults.Memory is = refl
+memory_alone _ is = absurd cc
 
 -- A message is answered, if it is not refused and has one meaning.
 pub answered : {X V : Type 0} (Is : V → List ℕ → Type 0) (value : X → V) (refusal : List ℕ → Option Refusal) (payload : List ℕ) →

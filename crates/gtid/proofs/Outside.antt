@@ -1,5 +1,5 @@
 -- Some text of the grammar continues what the scan has read. None continues what it stops at.
-use Rattle.gtid.proofs.Names.{◌≡◌, ℕ, zero, suc, ◌+◌, ◌-◌, ◌<◌, ◌≤◌, ◌==◌, Bool, true, false, if◌then◌else◌, Some, None, List, [], ◌∷◌, ◌++◌, length, take, get_or, refl, ap, sym, subst, ◌∙◌, arith, append-nil, nat_tests, is_hyphen_place, SidBlock, IsList, IsInGrammar, IsOutsideFrom, ends, stands_at, IsPlaced, IsPassed, State, Start, Item, First, Lo, Second, Hi, After}
+use Rattle.gtid.proofs.Names.{◌≡◌, ℕ, zero, suc, ◌+◌, ◌-◌, ◌<◌, ◌≤◌, ◌==◌, Bool, true, false, if◌then◌else◌, Some, None, List, [], ◌∷◌, ◌++◌, length, take, get_or, refl, ap, sym, subst, ◌∙◌, arith, append-nil, nat_tests, is_hyphen_place, SidBlock, IsList, IsInGrammar, IsOutsideFrom, ends, stands_at, IsPlaced, IsPassed, State, Start, Item, First, Lo, Second, Hi}
 use Rattle.std.proofs.Common.{drop, length-append, true≢false, take-add, take_all}
 use Rattle.uuid.specs.Text.{is_hex_digit}
 use Rattle.gtid.specs.Text.{BeginsText}
@@ -15,14 +15,11 @@ filling place (suc n) = (if is_hyphen_place place then 45 else 48) ∷ filling (
 
 -- what a text may go on with
 abbrev ending : State → List ℕ
-ending Start = []
 ending Item = 48 ∷ filling 1 35
 ending (Source place) = filling place (36 - place)
 ending First = 49 ∷ []
-ending Lo = []
 ending Second = 49 ∷ []
-ending Hi = []
-ending After = []
+ending _ = []
 
 filling_stands : (place : ℕ) → stands_at place (if is_hyphen_place place then 45 else 48) ≡ true
 filling_stands place = by (is_hyphen_place place)
@@ -41,14 +38,11 @@ filled (suc n) place long =
     ∙ filled n (place + 1) (omega arith)
 
 ended : (s : State) → IsPlaced s → Ended (run (Some s) (ending s))
-ended Start placed = record { state = Start; is = refl; end = refl }
 ended Item placed = record { state = Lo; is = filled 35 1 refl; end = refl }
 ended (Source place) placed = record { state = Lo; is = filled (36 - place) place (omega arith); end = refl }
 ended First placed = record { state = Lo; is = refl; end = refl }
-ended Lo placed = record { state = Lo; is = refl; end = refl }
 ended Second placed = record { state = Hi; is = refl; end = refl }
-ended Hi placed = record { state = Hi; is = refl; end = refl }
-ended After placed = record { state = After; is = refl; end = refl }
+ended s placed = record { state = s; is = refl; end = refl }
 
 begins_some : (front : List ℕ) (s : State) → run (Some Start) front ≡ Some s → IsPlaced s → BeginsText front
 begins_some front s ran placed =

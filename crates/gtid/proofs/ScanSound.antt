@@ -339,13 +339,10 @@ no_trail = record { blanks = []; rest = []; text_is = refl; are_blank = tt; next
 
 at_end : (s : State) → ends s ≡ true → Completes s []
 at_end Start end = record { items = []; is_list = tt }
-at_end Item end = absurd (true≢false (sym end))
-at_end (Source place) end = absurd (true≢false (sym end))
-at_end First end = absurd (true≢false (sym end))
 at_end Lo end = no_digits AfterFirst [] (inl (no_numbers [] no_trail))
-at_end Second end = absurd (true≢false (sym end))
 at_end Hi end = no_digits (Numbers 0) [] (no_numbers [] no_trail)
 at_end After end = no_trail
+at_end _ end = absurd (true≢false (sym end))
 
 pub same_state : (s t : State) → Some s ≡ Some t → s ≡ t
 same_state s t e = Prim.cc

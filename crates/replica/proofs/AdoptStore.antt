@@ -43,9 +43,4 @@ module _ {S : Type 0} (g : Ghosts S) where
       leaves = record { each = λ trees may. (old, subst (λ n. AreOf (state g before.conn).now.schema n old trees) (sym later) (leaves trees may), refl) };
     };
   }
-  not_added before after old ids fault.Damaged later it leaves = absurd it
-  not_added before after old ids (fault.Layout n) later it leaves = absurd it
-  not_added before after old ids fault.Broken later it leaves = absurd it
-  not_added before after old ids fault.Follows later it leaves = absurd it
-  not_added before after old ids (fault.NoSuchRow at) later it leaves = absurd it
-  not_added before after old ids (fault.CountFull at) later it leaves = absurd it
+  not_added before after old ids _ later it leaves = absurd it

@@ -1,5 +1,5 @@
 -- One transaction that a store takes.
-use Rattle.replica.proofs.Names.{◌≡◌, Bool, Result, Ok, Err, IfErr, inl, inr, refl, sym, subst, Ghosts, Trees, DeliveryValue, Content, Applied, StoreFault, Store, Applies, Reason, EndOfInput, SourceEof, SourceError, Wire, Greet, Event, Gather, Refused, Database, Memory, ReadFailed, WriteFailed, Halted, Until, IsOwn, outcome_of, TakesAlone}
+use Rattle.replica.proofs.Names.{◌≡◌, Bool, Result, Ok, Err, IfErr, inl, inr, refl, sym, subst, Ghosts, Trees, DeliveryValue, Content, Applied, StoreFault, Store, Applies, Reason, Halted, IsOwn, outcome_of, TakesAlone}
 use Rattle.sqlite.specs.Held.{state}
 use Rattle.store.specs.declared.fault.Applied.TheVariants as applied
 use Rattle.store.specs.declared.fault.StoreFault.TheVariants as fault
@@ -7,20 +7,8 @@ use Rattle.store.specs.Store.{Holds, Leaves}
 use Rattle.replica.specs.Alone.{IsOwnOrHalted}
 
 own_or_halted : (reason : Reason) (stopped : Bool) → IsOwn reason → IsOwnOrHalted reason stopped
-own_or_halted EndOfInput stopped h = h
-own_or_halted SourceEof stopped h = h
-own_or_halted (SourceError code state message) stopped h = h
-own_or_halted (Wire fault) stopped h = h
-own_or_halted (Greet fault) stopped h = h
-own_or_halted (Event fault) stopped h = h
-own_or_halted (Gather fault) stopped h = h
-own_or_halted (Refused refusal) stopped h = h
-own_or_halted (Database cause) stopped h = h
-own_or_halted Memory stopped h = h
-own_or_halted ReadFailed stopped h = h
-own_or_halted WriteFailed stopped h = h
 own_or_halted Halted stopped h = absurd h
-own_or_halted Until stopped h = h
+own_or_halted _ stopped h = h
 
 pub own_alone : (out : Result Bool Reason) (stopped : Bool) → IfErr out IsOwn → IfErr out (λ reason. IsOwnOrHalted reason stopped)
 own_alone (Ok applied) stopped h = tt

@@ -1,5 +1,5 @@
 -- A session over a store takes a payload.
-use Rattle.replica.proofs.Names.{◌≡◌, ◌≢◌, ◌⊎◌, ℕ, ◌+◌, ◌^◌, ◌<◌, Bool, true, false, List, [], ◌∷◌, ◌++◌, length, Some, None, unwrap_or, IsTrue, inl, inr, refl, sym, ap, subst, ◌∙◌, append-nil, arith, length-append, true≢false, Ghosts, Trees, Schema, Held, packing_length, ReaderState, IsUnfinished, Payload, nothing_yet, Names, DeliveryValue, Gatherer, Error, Content, HasOutcome, done, StoreFault, Store, HoldsAs, AreOf, Reason, EndOfInput, SourceEof, SourceError, Wire, Greet, Event, Gather, Refused, Database, Memory, ReadFailed, WriteFailed, Halted, Until, Ended, Phase, Session, Settings, Hello, InDump, IsInDump, Answers, next_due, next_id, due_after, due_from, Denies, EndsLog, AppliesAll, Why, BreaksStore, GoesOn, HasEnded, HasPayload, due_of, end_of, IsLeftOfOne, GathersMore, LeavesOnly, StandsOver}
+use Rattle.replica.proofs.Names.{◌≡◌, ◌≢◌, ◌⊎◌, ℕ, ◌+◌, ◌^◌, ◌<◌, Bool, true, false, List, [], ◌∷◌, ◌++◌, length, Some, None, unwrap_or, IsTrue, inl, inr, refl, sym, ap, subst, ◌∙◌, append-nil, arith, length-append, true≢false, Ghosts, Trees, Schema, Held, packing_length, ReaderState, IsUnfinished, Payload, nothing_yet, Names, DeliveryValue, Gatherer, Error, Content, HasOutcome, done, StoreFault, Store, HoldsAs, AreOf, Reason, EndOfInput, SourceEof, SourceError, Greet, Event, Gather, Refused, Database, Memory, Halted, Until, Ended, Phase, Session, Settings, Hello, InDump, IsInDump, Answers, next_due, next_id, due_after, due_from, Denies, EndsLog, AppliesAll, Why, BreaksStore, GoesOn, HasEnded, HasPayload, due_of, end_of, IsLeftOfOne, GathersMore, LeavesOnly, StandsOver}
 use Rattle.sqlite.specs.Held.{state}
 use Rattle.store.specs.declared.fault.StoreFault.TheVariants as fault
 use Rattle.store.specs.Store.{Holds}
@@ -250,12 +250,10 @@ module _ {S : Type 0} (g : Ghosts S) (settled : (h : Held S) (db : Trees) → Is
 
       pub dump_ends : (reason : Reason) → new.ended ≡ Some (record { reason = reason; at = offset_of reason s.at end; applied = s.applied })
           → EndsSo g m.is m.now m.meets.reading.events m.meets.reading.deliveries p store after reason → StandsOver g new after schema was old b o
-      dump_ends EndOfInput some e = absurd e.0
       dump_ends SourceEof some e =
           rests_so SourceEof end some e.1 (log_ends s.config s.assembler s.gatherer s.phase s.at s.applied store.following was m.is old m.now b (o ++ s.out.items) p m.meets dump end end_is_sum within e.0)
       dump_ends (SourceError code state message) some e =
           rests_so (SourceError code state message) s.at some e.1 (stopped (SourceError code state message) m.is (λ q. cc) (m.meets.at_is, denied (SourceError code state message) e.0) m.meets.store)
-      dump_ends (Wire f) some e = absurd e.0
       dump_ends (Greet f) some e = rests_so (Greet f) s.at some e.1 (stopped (Greet f) m.is (λ q. cc) (m.meets.at_is, denied (Greet f) e.0) m.meets.store)
       dump_ends (Event f) some e = rests_so (Event f) s.at some e.1 (stopped (Event f) m.is (λ q. cc) (m.meets.at_is, denied (Event f) e.0) m.meets.store)
       dump_ends (Gather f) some e = rests_so (Gather f) s.at some e.1 (stopped (Gather f) m.is (λ q. cc) (m.meets.at_is, denied (Gather f) e.0) m.meets.store)
@@ -295,8 +293,6 @@ module _ {S : Type 0} (g : Ghosts S) (settled : (h : Held S) (db : Trees) → Is
                   (m.now, subst (λ n. AreOf schema n m.now trees) (sym same_names) (subst (λ x. AreOf x store.following m.now trees) (m.schema_is before) (e.3 before broken trees may)), inl refl);
             }
           ])
-      dump_ends ReadFailed some e = absurd e.0
-      dump_ends WriteFailed some e = absurd e.0
       dump_ends Halted some e =
           rests_so Halted s.at some e.3 (stopped Halted m.is (λ q. cc) (m.meets.at_is, record { delivery = e.0; ends = next_ends e.0 e.1; fresh = e.2 }) m.meets.store)
-      dump_ends Until some e = absurd e.0
+      dump_ends _ some e = absurd e.0

@@ -1,5 +1,5 @@
 -- A payload of the dump.
-use Rattle.replica.proofs.Names.{◌≡◌, ◌⊎◌, ◌≤◌, ◌-◌, ℕ, Bool, true, false, List, [], ◌∷◌, take, length, Result, Ok, Err, get_or, inl, inr, refl, sym, ap, subst, ◌∙◌, Ghosts, Trees, true≢false, false≢true, cases_Bool, Names, EventValue, IsEvent, DeliveryValue, Gatherer, Content, is_executed, Applied, StoreFault, Store, HasFailed, HoldsAs, Applies, Reason, EndOfInput, SourceEof, SourceError, Wire, Greet, Event, Gather, Refused, Database, Memory, ReadFailed, WriteFailed, Halted, Until, Carries, Payload, EndsDump, GathersMore, outcome_of}
+use Rattle.replica.proofs.Names.{◌≡◌, ◌⊎◌, ◌≤◌, ◌-◌, ℕ, Bool, true, false, List, [], ◌∷◌, take, length, Result, Ok, Err, get_or, inl, inr, refl, sym, ap, subst, ◌∙◌, Ghosts, Trees, true≢false, false≢true, cases_Bool, Names, EventValue, IsEvent, DeliveryValue, Gatherer, Content, is_executed, Applied, StoreFault, Store, HasFailed, HoldsAs, Applies, Reason, SourceEof, SourceError, Greet, Event, Gather, Memory, Halted, Carries, Payload, EndsDump, GathersMore, outcome_of}
 use Rattle.std.proofs.Common.{drop}
 use Rattle.sqlite.specs.Held.{state}
 use Rattle.wire.proofs.Cuts.{begun_by}
@@ -32,20 +32,13 @@ module _ {S : Type 0} (g : Ghosts S) (es : List EventValue) (ds : List DeliveryV
   rested is now store holds = record { holds = holds; schema = λ _. refl }
 
   pub ends_early : (is : Bool) (now : Content) (store : Store S g) (reason : Reason) → HoldsAs g is now store → EndsDump store.following es p reason → EndsSo g is now es ds p store store reason
-  ends_early is now store EndOfInput holds h = absurd h
   ends_early is now store SourceEof holds h = (h, rested is now store holds)
   ends_early is now store (SourceError code state message) holds h = (h, rested is now store holds)
-  ends_early is now store (Wire f) holds h = absurd h
   ends_early is now store (Greet f) holds h = (h, rested is now store holds)
   ends_early is now store (Event f) holds h = (h, rested is now store holds)
   ends_early is now store (Gather f) holds h = (h, rested is now store holds)
-  ends_early is now store (Refused f) holds h = absurd h
-  ends_early is now store (Database f) holds h = absurd h
   ends_early is now store Memory holds h = (is, (λ b. b), rested is now store holds, λ whole broken. absurd (false≢true (sym whole ∙ broken)))
-  ends_early is now store ReadFailed holds h = absurd h
-  ends_early is now store WriteFailed holds h = absurd h
-  ends_early is now store Halted holds h = absurd h
-  ends_early is now store Until holds h = absurd h
+  ends_early is now store _ holds h = absurd h
 
   pub goes_on : (is : Bool) (now : Content) (store : Store S g) (gatherer : Gatherer) → HoldsAs g is now store → GathersMore store.following es ds p [] gatherer → GoesFurther g is now es ds p store store gatherer false
   goes_on is now store gatherer holds more = record {

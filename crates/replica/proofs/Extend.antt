@@ -59,13 +59,7 @@ module _ (limit : ℕ) (names : Names) (due : Due) (es : List EventValue) (taken
   stops-append at (Greet fault) h s = (s.0, with-append (Greet fault) s.1)
   stops-append at (Event fault) h s = (s.0, with-append (Event fault) s.1)
   stops-append at (Gather fault) h s = (s.0, with-append (Gather fault) s.1)
-  stops-append at (Refused refusal) h s = s
-  stops-append at (Database cause) h s = s
-  stops-append at Memory h s = s
-  stops-append at ReadFailed h s = s
-  stops-append at WriteFailed h s = s
-  stops-append at Halted h s = s
-  stops-append at Until h s = s
+  stops-append at _ h s = s
 
   module _ (ds : List DeliveryValue) where
     pub ends-append : (d : DeliveryValue) → NextEnds limit names due es ds taken id r d → NextEnds limit names due es ds taken id (r ++ more) d
@@ -76,15 +70,10 @@ module _ (limit : ℕ) (names : Names) (due : Due) (es : List EventValue) (taken
 
     pub why-append : (was : Bool) (old new : Content) (at : ℕ) (reason : Reason) → reason ≢ EndOfInput → Why limit names due es ds taken id r was old new at reason → Why limit names due es ds taken id (r ++ more) was old new at reason
     why-append was old new at EndOfInput h w = absurd (h refl)
-    why-append was old new at SourceEof h w = stops-append at SourceEof h w
-    why-append was old new at (SourceError code state message) h w = stops-append at (SourceError code state message) h w
     why-append was old new at (Wire fault) h w = elim w [
       | inl s ↦ inl (stops-append at (Wire fault) h s)
       | inr s ↦ inr (s.0, s.1, answers-append s.2, s.3)
     ]
-    why-append was old new at (Greet fault) h w = stops-append at (Greet fault) h w
-    why-append was old new at (Event fault) h w = stops-append at (Event fault) h w
-    why-append was old new at (Gather fault) h w = stops-append at (Gather fault) h w
     why-append was old new at (Refused refusal) h w = (w.0, record { delivery = w.1.delivery; ends = ends-append w.1.delivery w.1.ends; refused = w.1.refused })
     why-append was old new at (Database cause) h w = (w.0, record { delivery = w.1.delivery; ends = ends-append w.1.delivery w.1.ends; fails = w.1.fails })
     why-append was old new at Memory h w = w
@@ -92,6 +81,7 @@ module _ (limit : ℕ) (names : Names) (due : Due) (es : List EventValue) (taken
     why-append was old new at WriteFailed h w = elim w [ inl e ↦ inl e | inr f ↦ inr (log-append at f) ]
     why-append was old new at Halted h w = (w.0, record { delivery = w.1.delivery; ends = ends-append w.1.delivery w.1.ends; fresh = w.1.fresh })
     why-append was old new at Until h w = w
+    why-append was old new at reason h w = stops-append at reason h w
 
 -- a connection that has ended has this end whatever follows
 pub conn-append : (limit : ℕ) (names : Names) (was : Bool) (old : Content) (b more : List ℕ) (new : Content) (end : Ended) → end.reason ≢ EndOfInput → Conn limit names was old b new end → Conn limit names was old (b ++ more) new end

@@ -1,5 +1,5 @@
 -- A reader of all lines of a change feed uses what was applied.
-use Rattle.replica.proofs.Names.{◌≡◌, ◌⊎◌, inl, inr, Bool, true, false, List, [], ◌∷◌, ◌++◌, map, length, Option, Some, None, Result, Ok, Err, refl, sym, ap, ap₂, subst, ◌∙◌, append_assoc, append-nil, arith, if◌then◌else◌, eq_by_cmp, false≢true, false_from_ne_true, or_cases, or_left, or_right, Id, Ids, id_cmp, id_cmp_total, Names, ChangeValue, DeliveryValue, Content, HasOutcome, done, StoreFault, Reason, EndOfInput, SourceEof, SourceError, Wire, Greet, Event, Gather, Refused, Database, Memory, ReadFailed, WriteFailed, Halted, Until, AppliesAll, Notice, stopped, ended, applied_in, IsMadeBy, LeadsBy, fails_by, EndsAtFailure, IsOneMoreNoted, IsLeftOfNoted}
+use Rattle.replica.proofs.Names.{◌≡◌, ◌⊎◌, inl, inr, Bool, true, false, List, [], ◌∷◌, ◌++◌, map, length, Option, Some, None, Result, Ok, Err, refl, sym, ap, ap₂, subst, ◌∙◌, append_assoc, append-nil, arith, if◌then◌else◌, eq_by_cmp, false≢true, false_from_ne_true, or_cases, or_left, or_right, Id, Ids, id_cmp, id_cmp_total, Names, ChangeValue, DeliveryValue, Content, HasOutcome, done, StoreFault, Reason, Database, Memory, AppliesAll, Notice, stopped, ended, applied_in, IsMadeBy, LeadsBy, fails_by, EndsAtFailure, IsOneMoreNoted, IsLeftOfNoted}
 use Rattle.std.specs.FinSet as set
 use Rattle.replica.specs.Noted.{opened, before, after, LetsNone, IsDatabaseFailure}
 use Rattle.replica.specs.Feed.{Line, open_line, change_line, commit_line, rollback_line, gtid_of, lines_after, lines_of, Reader, kept_changes, with_used, after_open, read_line, read_lines, has_change, with_changes}
@@ -112,20 +112,9 @@ within_used used old new id is within q has =
 
 -- which of the three ways there are for a transaction that was not applied
 pub kind_of : (id : Id) (reason : Reason) → ((cause : StoreFault) × (reason ≡ Database cause)) ⊎ ((reason ≡ Memory) ⊎ ((lines_after id (Err reason) ≡ rollback_line id ∷ []) × (fails_by (Err reason) ≡ false) × (IsDatabaseFailure (Err reason) → ⊥)))
-kind_of id EndOfInput = inr (inr (refl, refl, λ bad. bad))
-kind_of id SourceEof = inr (inr (refl, refl, λ bad. bad))
-kind_of id (SourceError code state message) = inr (inr (refl, refl, λ bad. bad))
-kind_of id (Wire f) = inr (inr (refl, refl, λ bad. bad))
-kind_of id (Greet f) = inr (inr (refl, refl, λ bad. bad))
-kind_of id (Event f) = inr (inr (refl, refl, λ bad. bad))
-kind_of id (Gather f) = inr (inr (refl, refl, λ bad. bad))
-kind_of id (Refused f) = inr (inr (refl, refl, λ bad. bad))
 kind_of id (Database cause) = inl (cause, refl)
 kind_of id Memory = inr (inl refl)
-kind_of id ReadFailed = inr (inr (refl, refl, λ bad. bad))
-kind_of id WriteFailed = inr (inr (refl, refl, λ bad. bad))
-kind_of id Halted = inr (inr (refl, refl, λ bad. bad))
-kind_of id Until = inr (inr (refl, refl, λ bad. bad))
+kind_of id _ = inr (inr (refl, refl, λ bad. bad))
 
 -- none is applied where none is to be
 lets_none_applied : (names : Names) (old : Content) (ns : List Notice) (new : Content) → LeadsBy names old ns new → LetsNone ns → applied_in ns ≡ []

@@ -1,5 +1,5 @@
 -- How following a stream ends.
-use Rattle.replica.proofs.Names.{◌≤◌, ◌≡◌, ◌≢◌, ℕ, ◌+◌, arith, take, unwrap_or, MatchOption, Bool, true, false, List, [], ◌++◌, length, Option, refl, sym, ap, ◌∙◌, inl, inr, subst, IsTrue, append_assoc, append-nil, Some, None, is_some, Appends, Consumes, Keeps, Consumes-nil, Ghosts, Trees, Held, Schema, Names, EventValue, DeliveryValue, Content, Store, HoldsAs, database, Reason, EndOfInput, SourceEof, SourceError, Wire, Greet, Event, Gather, Refused, Database, Memory, ReadFailed, WriteFailed, Halted, Until, Ended, Session, Settings, Due, Reading, due_after, Why, Conn, BreaksStore, IsNoStreamFailure, reported_as, IsLeftOfOne, SentFor, GoesOn, HasEnded, end_of, room_of, StandsOver, LeavesOnly, IsInFull}
+use Rattle.replica.proofs.Names.{◌≤◌, ◌≡◌, ◌≢◌, ℕ, ◌+◌, arith, take, unwrap_or, MatchOption, Bool, true, false, List, [], ◌++◌, length, Option, refl, sym, ap, ◌∙◌, inl, inr, subst, IsTrue, append_assoc, append-nil, Some, None, is_some, Appends, Consumes, Keeps, Consumes-nil, Ghosts, Trees, Held, Schema, Names, EventValue, DeliveryValue, Content, Store, HoldsAs, database, Reason, EndOfInput, SourceEof, Wire, Database, Memory, ReadFailed, WriteFailed, Halted, Until, Ended, Session, Settings, Due, Reading, due_after, Why, Conn, BreaksStore, IsNoStreamFailure, reported_as, IsLeftOfOne, SentFor, GoesOn, HasEnded, end_of, room_of, StandsOver, LeavesOnly, IsInFull}
 use Rattle.std.proofs.Common.{drop, option_map, Bor}
 use Rattle.std.specs.Io.KnownBytes.{IsAtEnd}
 use Rattle.std.proofs.Math.Seq.{take-append_seam}
@@ -13,69 +13,33 @@ use Rattle.replica.proofs.Positions.{conn_of, sent_of}
 use Rattle.replica.proofs.Runs.{begins, read_all}
 
 may_owe : (reason : Reason) → sends_no_more_after reason ≡ true → MaySendLess reason
-may_owe EndOfInput h = cc
-may_owe SourceEof h = cc
-may_owe (SourceError code state message) h = cc
-may_owe (Wire fault) h = cc
-may_owe (Greet fault) h = cc
-may_owe (Event fault) h = cc
-may_owe (Gather fault) h = cc
-may_owe (Refused refusal) h = cc
 may_owe (Database cause) h = tt
 may_owe Memory h = tt
-may_owe ReadFailed h = cc
-may_owe WriteFailed h = cc
 may_owe Halted h = tt
 may_owe Until h = tt
+may_owe _ h = cc
 
 is_in_full : (reason : Reason) → sends_no_more_after reason ≡ false → IsNoStreamFailure reason → IsInFull reason
-is_in_full EndOfInput h n = tt
-is_in_full SourceEof h n = tt
-is_in_full (SourceError code state message) h n = tt
-is_in_full (Wire fault) h n = tt
-is_in_full (Greet fault) h n = tt
-is_in_full (Event fault) h n = tt
-is_in_full (Gather fault) h n = tt
-is_in_full (Refused refusal) h n = tt
 is_in_full (Database cause) h n = cc
 is_in_full Memory h n = cc
 is_in_full ReadFailed h n = absurd n
 is_in_full WriteFailed h n = absurd n
 is_in_full Halted h n = cc
 is_in_full Until h n = cc
+is_in_full _ h n = tt
 
 not_of_stream : (reason : Reason) → IsNoStreamFailure reason → IsOfStream reason → ⊥
-not_of_stream EndOfInput n h = h
-not_of_stream SourceEof n h = h
-not_of_stream (SourceError code state message) n h = h
-not_of_stream (Wire fault) n h = h
-not_of_stream (Greet fault) n h = h
-not_of_stream (Event fault) n h = h
-not_of_stream (Gather fault) n h = h
-not_of_stream (Refused refusal) n h = h
-not_of_stream (Database cause) n h = h
-not_of_stream Memory n h = h
 not_of_stream ReadFailed n h = n
 not_of_stream WriteFailed n h = n
-not_of_stream Halted n h = h
-not_of_stream Until n h = h
+not_of_stream _ n h = h
 
 -- such an end leaves the store failed or not, as it was
 as_it_was : (reason : Reason) (was is : Bool) → IsInFull reason → BreaksStore reason was is → is ≡ was
-as_it_was EndOfInput was is full h = h
-as_it_was SourceEof was is full h = h
-as_it_was (SourceError code state message) was is full h = h
-as_it_was (Wire fault) was is full h = h
-as_it_was (Greet fault) was is full h = h
-as_it_was (Event fault) was is full h = h
-as_it_was (Gather fault) was is full h = h
-as_it_was (Refused refusal) was is full h = h
 as_it_was (Database cause) was is full h = absurd full
 as_it_was Memory was is full h = absurd full
-as_it_was ReadFailed was is full h = h
-as_it_was WriteFailed was is full h = h
 as_it_was Halted was is full h = absurd full
 as_it_was Until was is full h = absurd full
+as_it_was _ was is full h = h
 
 -- running out of memory, an observer that waits for nothing, or a failure of the stream
 abbrev pub IsLate : Reason → Type 0
@@ -84,20 +48,11 @@ IsLate Until = Unit {0}
 IsLate reason = IsOfStream reason
 
 reported_late : (reason : Reason) (was is : Bool) → IsLate reason → is ≡ was → BreaksStore reason was is
-reported_late EndOfInput was is s h = absurd s
-reported_late SourceEof was is s h = absurd s
-reported_late (SourceError code state message) was is s h = absurd s
-reported_late (Wire fault) was is s h = absurd s
-reported_late (Greet fault) was is s h = absurd s
-reported_late (Event fault) was is s h = absurd s
-reported_late (Gather fault) was is s h = absurd s
-reported_late (Refused refusal) was is s h = absurd s
-reported_late (Database cause) was is s h = absurd s
 reported_late Memory was is s h = λ w. h ∙ w
 reported_late ReadFailed was is s h = h
 reported_late WriteFailed was is s h = h
-reported_late Halted was is s h = absurd s
 reported_late Until was is s h = h
+reported_late _ was is s h = absurd s
 
 module _ (limit : ℕ) (names : Names) (due : Due) (es : List EventValue) (ds : List DeliveryValue) (taken id : ℕ) (rest : List ℕ) (was : Bool) (old new : Content) (at : ℕ) where
   abbrev pub why : Reason → Type 0
@@ -105,20 +60,15 @@ module _ (limit : ℕ) (names : Names) (due : Due) (es : List EventValue) (ds : 
 
   -- the reason of an ended connection may be replaced by a failed write
   pub why_write_failed : (reason : Reason) → IsInFull reason → why reason → why WriteFailed
-  why_write_failed EndOfInput h w = inl w.0
   why_write_failed SourceEof h w = inr w
-  why_write_failed (SourceError code state message) h w = inl w.0
   why_write_failed (Wire fault) h w = elim w [ inl s ↦ inl s.0 | inr s ↦ inl s.1 ]
-  why_write_failed (Greet fault) h w = inl w.0
-  why_write_failed (Event fault) h w = inl w.0
-  why_write_failed (Gather fault) h w = inl w.0
-  why_write_failed (Refused refusal) h w = inl w.0
   why_write_failed (Database cause) h w = absurd h
   why_write_failed Memory h w = absurd h
   why_write_failed ReadFailed h w = absurd h
   why_write_failed WriteFailed h w = absurd h
   why_write_failed Halted h w = absurd h
   why_write_failed Until h w = absurd h
+  why_write_failed _ h w = inl w.0
 
   -- and an end of the input by a failed read
   pub why_read_failed : (reason : Reason) → reason ≡ EndOfInput → why reason → why ReadFailed

@@ -265,9 +265,4 @@ module _ {S : Type 0} (g : Ghosts S) where
     schema = (state g before.conn).now.schema;
     leaves = record { each = λ trees may. (old, subst (λ n. AreOf (state g before.conn).now.schema n old trees) (sym later) (leaves trees may), inl refl) };
   }
-  not_adopted before after old ids left fault.Damaged later it leaves = absurd it
-  not_adopted before after old ids left (fault.Layout n) later it leaves = absurd it
-  not_adopted before after old ids left fault.Broken later it leaves = absurd it
-  not_adopted before after old ids left fault.Follows later it leaves = absurd it
-  not_adopted before after old ids left (fault.NoSuchRow at) later it leaves = absurd it
-  not_adopted before after old ids left (fault.CountFull at) later it leaves = absurd it
+  not_adopted before after old ids left _ later it leaves = absurd it

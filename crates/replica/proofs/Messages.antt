@@ -1,40 +1,20 @@
 -- A message before the dump.
-use Rattle.replica.proofs.Names.{◌≡◌, ℕ, List, Result, Ok, Err, IfErr, inl, inr, refl, sym, subst, Ids, Names, Reason, EndOfInput, SourceEof, SourceError, Wire, Greet, Event, Gather, Refused, Database, Memory, ReadFailed, WriteFailed, Halted, Until, Settings, Due, Reply, SecondReply, next_due, Payload, refusal_of, IsNoEvent, EndsAt, EndsDump, IsAnswered, Sends, InDump, EventValue}
+use Rattle.replica.proofs.Names.{◌≡◌, ℕ, List, Result, Ok, Err, IfErr, inl, inr, refl, sym, subst, Ids, Names, Reason, SourceError, Greet, Memory, Settings, Due, Reply, SecondReply, next_due, Payload, refusal_of, IsNoEvent, EndsAt, EndsDump, IsAnswered, Sends, InDump, EventValue}
 use Rattle.greet.specs.Message.{IsSwitch}
 use Rattle.replica.specs.Sent.{auth_bytes}
 use Rattle.replica.specs.PayloadStep.{IsReportOf}
 
 pub message_ends : (names : Names) (executed : Ids) (due : Due) (p : Payload) (reason : Reason) → IsNoEvent due p → IsReportOf (refusal_of due p) reason → EndsAt names executed due p reason
-message_ends names executed due p EndOfInput n t = absurd t
-message_ends names executed due p SourceEof n t = absurd t
 message_ends names executed due p (SourceError code state message) n t = (n, t)
-message_ends names executed due p (Wire f) n t = absurd t
 message_ends names executed due p (Greet f) n t = (n, t.0, t.1)
-message_ends names executed due p (Event f) n t = absurd t
-message_ends names executed due p (Gather f) n t = absurd t
-message_ends names executed due p (Refused f) n t = absurd t
-message_ends names executed due p (Database f) n t = absurd t
 message_ends names executed due p Memory n t = tt
-message_ends names executed due p ReadFailed n t = absurd t
-message_ends names executed due p WriteFailed n t = absurd t
-message_ends names executed due p Halted n t = absurd t
-message_ends names executed due p Until n t = absurd t
+message_ends names executed due p _ n t = absurd t
 
 pub dump_ends : (names : Names) (es : List EventValue) (p : Payload) (reason : Reason) → IsNoEvent InDump p → IsReportOf (refusal_of InDump p) reason → EndsDump names es p reason
-dump_ends names es p EndOfInput n t = absurd t
-dump_ends names es p SourceEof n t = absurd t
 dump_ends names es p (SourceError code state message) n t = (n, t)
-dump_ends names es p (Wire f) n t = absurd t
 dump_ends names es p (Greet f) n t = (n, t.0, t.1)
-dump_ends names es p (Event f) n t = absurd t
-dump_ends names es p (Gather f) n t = absurd t
-dump_ends names es p (Refused f) n t = absurd t
-dump_ends names es p (Database f) n t = absurd t
 dump_ends names es p Memory n t = tt
-dump_ends names es p ReadFailed n t = absurd t
-dump_ends names es p WriteFailed n t = absurd t
-dump_ends names es p Halted n t = absurd t
-dump_ends names es p Until n t = absurd t
+dump_ends names es p _ n t = absurd t
 
 pub answered_again : (settings : Settings) (names : Names) (executed : Ids) (scramble : List ℕ) (p : Payload) (old new : List ℕ) → IsSwitch scramble p → Sends 3 (auth_bytes settings.password scramble) old new
     → IsAnswered settings names executed Reply p old new

@@ -1,5 +1,5 @@
 -- What is reported to an observer, along the calls that report it.
-use Rattle.replica.proofs.Names.{◌≡◌, ◌≢◌, ◌⊎◌, ◌∷◌, ◌++◌, [], length, arith, List, Option, Some, None, Result, Ok, Err, Bool, true, false, refl, sym, ap, ap₂, subst, ◌∙◌, inl, inr, append_assoc, append-nil, if◌then◌else◌, cases_Bool, false≢true, false_from_ne_true, or_left, or_right, or_cases, Ghosts, Schema, Ids, Names, DeliveryValue, Content, HasOutcome, done, is_executed, Applied, StoreFault, Store, HasFailed, HoldsAs, AreOf, Applies, Reason, EndOfInput, SourceEof, SourceError, Wire, Greet, Event, Gather, Refused, Database, Memory, ReadFailed, WriteFailed, Halted, Until, Ended, AppliesAll, outcome_of, Notice, stopped, ended, applied_in, IsMadeBy, LeadsBy, Account, HasNotices, IsLedOver, StillWaits, WereMissed, WasMissing, BeginsWith, IsNotedSinceOpening, IsLedSinceOpening, fails_by, has_failure, EndsAtFailure, IsOneMoreNoted, IsLeftOfNoted, LeavesOnly, TakesAlone, waits_for_none}
+use Rattle.replica.proofs.Names.{◌≡◌, ◌≢◌, ◌⊎◌, ◌∷◌, ◌++◌, [], length, arith, List, Option, Some, None, Result, Ok, Err, Bool, true, false, refl, sym, ap, ap₂, subst, ◌∙◌, inl, inr, append_assoc, append-nil, if◌then◌else◌, cases_Bool, false≢true, false_from_ne_true, or_left, or_right, or_cases, Ghosts, Schema, Ids, Names, DeliveryValue, Content, HasOutcome, done, is_executed, Applied, StoreFault, Store, HasFailed, HoldsAs, AreOf, Applies, Reason, EndOfInput, Database, Ended, AppliesAll, outcome_of, Notice, stopped, ended, applied_in, IsMadeBy, LeadsBy, Account, HasNotices, IsLedOver, StillWaits, WereMissed, WasMissing, BeginsWith, IsNotedSinceOpening, IsLedSinceOpening, fails_by, has_failure, EndsAtFailure, IsOneMoreNoted, IsLeftOfNoted, LeavesOnly, TakesAlone, waits_for_none}
 use Rattle.std.specs.Prelude.{not}
 use Rattle.std.proofs.lemmas.Bool.{or_parts}
 use Rattle.std.specs.FinSet as set
@@ -223,19 +223,7 @@ ends_more (ended end goes_on ∷ xs) ys = ap (λ (l : List Ended). end ∷ l) (e
 -- a transaction that is refused, or in which the store fails, changes nothing
 pub unchanged : (names : Names) (old : Content) (d : DeliveryValue) (reason : Reason) (mid : Content) → IsMadeBy names old d (Err reason) mid → mid ≡ old
 unchanged names old d EndOfInput mid a = a.1
-unchanged names old d SourceEof mid a = a.1
-unchanged names old d (SourceError code state message) mid a = a.1
-unchanged names old d (Wire f) mid a = a.1
-unchanged names old d (Greet f) mid a = a.1
-unchanged names old d (Event f) mid a = a.1
-unchanged names old d (Gather f) mid a = a.1
-unchanged names old d (Refused f) mid a = a.1
-unchanged names old d (Database f) mid a = a.1
-unchanged names old d Memory mid a = a.1
-unchanged names old d ReadFailed mid a = a.1
-unchanged names old d WriteFailed mid a = a.1
-unchanged names old d Halted mid a = a.1
-unchanged names old d Until mid a = a.1
+unchanged names old d _ mid a = a.1
 
 -- the transactions reported as applied are applied in order, and each is new
 pub all_applied : (names : Names) (old : Content) (notices : List Notice) (new : Content) → LeadsBy names old notices new → AppliesAll names old (applied_in notices) (length (applied_in notices)) new

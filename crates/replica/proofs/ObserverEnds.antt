@@ -1,90 +1,43 @@
 -- How an observer may end a connection.
-use Rattle.replica.proofs.Names.{◌≡◌, ◌≢◌, ◌≤◌, ◌∷◌, ◌++◌, ◌∙◌, [], List, All, Bool, true, false, length, arith, sym, subst, false≢true, Ended, Reason, EndOfInput, SourceEof, SourceError, Wire, Greet, Event, Gather, Refused, Database, Memory, ReadFailed, WriteFailed, Halted, Until, IsOwn, IsNoStreamFailure, Account, Notice, StillWaits, MayEnd, waits_for_none}
+use Rattle.replica.proofs.Names.{◌≡◌, ◌≢◌, ◌≤◌, ◌∷◌, ◌++◌, ◌∙◌, [], List, All, Bool, true, false, length, arith, sym, subst, false≢true, Ended, Reason, ReadFailed, WriteFailed, Halted, Until, IsOwn, IsNoStreamFailure, Account, Notice, StillWaits, MayEnd, waits_for_none}
 use Rattle.std.proofs.lemmas.List.Elements.{All-nil, All-push, All-weaker}
 use Rattle.replica.specs.Noted.{IsAsked}
 use Rattle.replica.proofs.Notices.{none_later}
 
 pub own_may : (reason : Reason) (is : Account) → IsOwn reason → MayEnd reason is
-own_may EndOfInput stopped h = tt
-own_may SourceEof stopped h = tt
-own_may (SourceError code state message) stopped h = tt
-own_may (Wire fault) stopped h = tt
-own_may (Greet fault) stopped h = tt
-own_may (Event fault) stopped h = tt
-own_may (Gather fault) stopped h = tt
-own_may (Refused refusal) stopped h = tt
-own_may (Database cause) stopped h = tt
-own_may Memory stopped h = tt
 own_may ReadFailed stopped h = absurd h
 own_may WriteFailed stopped h = absurd h
 own_may Halted stopped h = absurd h
 own_may Until stopped h = absurd h
+own_may _ stopped h = tt
 
 -- an observer does not take back that it has stopped, or that it waits for nothing more
 pub may_later : (reason : Reason) (was is : Account) (notices : List Notice) → (was.has_stopped ≡ true → is.has_stopped ≡ true) → StillWaits was.waits notices is.waits → MayEnd reason was → MayEnd reason is
-may_later EndOfInput was is notices stays waits h = tt
-may_later SourceEof was is notices stays waits h = tt
-may_later (SourceError code state message) was is notices stays waits h = tt
-may_later (Wire fault) was is notices stays waits h = tt
-may_later (Greet fault) was is notices stays waits h = tt
-may_later (Event fault) was is notices stays waits h = tt
-may_later (Gather fault) was is notices stays waits h = tt
-may_later (Refused refusal) was is notices stays waits h = tt
-may_later (Database cause) was is notices stays waits h = tt
-may_later Memory was is notices stays waits h = tt
 may_later ReadFailed was is notices stays waits h = absurd h
 may_later WriteFailed was is notices stays waits h = absurd h
 may_later Halted was is notices stays waits h = stays h
 may_later Until was is notices stays waits h = (stays h.0, none_later was.waits is.waits notices waits h.1)
+may_later _ was is notices stays waits h = tt
 
 -- as long as it has not stopped, it has ended no connection
 going_may : (reason : Reason) (was is : Account) → was.has_stopped ≡ false → MayEnd reason was → MayEnd reason is
-going_may EndOfInput was is on h = tt
-going_may SourceEof was is on h = tt
-going_may (SourceError code state message) was is on h = tt
-going_may (Wire fault) was is on h = tt
-going_may (Greet fault) was is on h = tt
-going_may (Event fault) was is on h = tt
-going_may (Gather fault) was is on h = tt
-going_may (Refused refusal) was is on h = tt
-going_may (Database cause) was is on h = tt
-going_may Memory was is on h = tt
 going_may ReadFailed was is on h = absurd h
 going_may WriteFailed was is on h = absurd h
 going_may Halted was is on h = absurd (false≢true (sym on ∙ h))
 going_may Until was is on h = absurd (false≢true (sym on ∙ h.0))
+going_may _ was is on h = tt
 
 pub not_of_stream : (reason : Reason) (is : Account) → MayEnd reason is → IsNoStreamFailure reason
-not_of_stream EndOfInput stopped h = tt
-not_of_stream SourceEof stopped h = tt
-not_of_stream (SourceError code state message) stopped h = tt
-not_of_stream (Wire fault) stopped h = tt
-not_of_stream (Greet fault) stopped h = tt
-not_of_stream (Event fault) stopped h = tt
-not_of_stream (Gather fault) stopped h = tt
-not_of_stream (Refused refusal) stopped h = tt
-not_of_stream (Database cause) stopped h = tt
-not_of_stream Memory stopped h = tt
 not_of_stream ReadFailed stopped h = absurd h
 not_of_stream WriteFailed stopped h = absurd h
-not_of_stream Halted stopped h = tt
-not_of_stream Until stopped h = tt
+not_of_stream _ stopped h = tt
 
 pub asked : (reason : Reason) (is : Account) → MayEnd reason is → IsAsked reason is
-asked EndOfInput is h = tt
-asked SourceEof is h = tt
-asked (SourceError code state message) is h = tt
-asked (Wire fault) is h = tt
-asked (Greet fault) is h = tt
-asked (Event fault) is h = tt
-asked (Gather fault) is h = tt
-asked (Refused refusal) is h = tt
-asked (Database cause) is h = tt
-asked Memory is h = tt
 asked ReadFailed is h = absurd h
 asked WriteFailed is h = absurd h
 asked Halted is h = h
 asked Until is h = h
+asked _ is h = tt
 
 pub asked_until : (reason : Reason) (is : Account) → IsAsked reason is → reason ≡ Until → waits_for_none is.waits ≡ true
 asked_until reason is h same = (subst (λ r. IsAsked r is) same h).1

@@ -1,5 +1,5 @@
 -- A connection's bytes have one end.
-use Rattle.replica.proofs.Names.{◌≡◌, ◌≢◌, ℕ, ◌⊎◌, ◌≤◌, ◌<◌, ◌+◌, ◌^◌, false, List, [], ◌∷◌, ◌++◌, length, take, refl, sym, ap, ◌∙◌, inl, inr, Some, None, Option, subst, append_assoc, arith, length-append, AllByRecursion, true≢false, WireFault, IsWholePayload, IsUnfinished, Payload, Names, EventValue, IsEvent, DeliveryValue, AreDeliveries, Reason, EndOfInput, SourceEof, SourceError, Wire, Greet, Event, Gather, Refused, Database, Memory, ReadFailed, WriteFailed, Halted, Until, Due, Hello, Reply, SecondReply, QueryReply, InDump, IsInDump, Carries, Answers, Talks, Reading, next_due, next_id, due_from, due_after, refusal_of, begins_event, IsNoEvent, HasNext, StopsAt, EndsLog, StopsFor, IsWrong, Denies, End}
+use Rattle.replica.proofs.Names.{◌≡◌, ◌≢◌, ℕ, ◌⊎◌, ◌≤◌, ◌<◌, ◌+◌, ◌^◌, false, List, [], ◌∷◌, ◌++◌, length, take, refl, sym, ap, ◌∙◌, inl, inr, Some, None, Option, subst, append_assoc, arith, length-append, AllByRecursion, true≢false, WireFault, IsWholePayload, IsUnfinished, Payload, Names, EventValue, IsEvent, DeliveryValue, AreDeliveries, Reason, EndOfInput, SourceEof, SourceError, Wire, Greet, Event, Gather, Due, Hello, Reply, SecondReply, QueryReply, InDump, IsInDump, Carries, Answers, Talks, Reading, next_due, next_id, due_from, due_after, refusal_of, begins_event, IsNoEvent, HasNext, StopsAt, EndsLog, StopsFor, IsWrong, Denies, End}
 use Rattle.std.proofs.Common.{if◌then◌else◌, ◌==◌}
 use Rattle.std.proofs.Math.Seq.{take-append_seam}
 use Rattle.wire.specs.declared.fault.WireFault.TheVariants as wire
@@ -34,11 +34,8 @@ carries_same names p e f c d =
     one_event names e f d.body (subst (λ l. IsEvent names e l) same c.is_event) d.is_event
 
 pub one_answer : (names : Names) (due : Due) (p : Payload) (es fs : List EventValue) → Answers names due p es → Answers names due p fs → es ≡ fs
-one_answer names Hello p es fs a b = a.1 ∙ sym b.1
-one_answer names Reply p es fs a b = a.1 ∙ sym b.1
-one_answer names SecondReply p es fs a b = a.1 ∙ sym b.1
-one_answer names QueryReply p es fs a b = a.1 ∙ sym b.1
 one_answer names InDump p es fs a b = a.2 ∙ ap (λ e. e ∷ []) (carries_same names p a.0 b.0 a.1 b.1) ∙ sym b.2
+one_answer names _ p es fs a b = a.1 ∙ sym b.1
 
 pub first_of : (x y : ℕ) (xs ys : List ℕ) → x ∷ xs ≡ y ∷ ys → x ≡ y
 first_of x y xs ys h = cc
@@ -62,20 +59,12 @@ answered names InDump p es a none = absurd (begins p a.1.body a.1.payload_is non
 
 nothing_refused : (fault : GreetFault) → IsOfMessage fault → Refuses None fault → ⊥
 nothing_refused (greet.ServerError code state message) h r = h
-nothing_refused (greet.Protocol byte) h r = cc
-nothing_refused greet.Truncated h r = cc
-nothing_refused (greet.Capabilities bits) h r = cc
-nothing_refused greet.Plugin h r = cc
-nothing_refused greet.OldAuth h r = cc
-nothing_refused (greet.Unexpected byte) h r = cc
 nothing_refused greet.Memory h r = h
+nothing_refused _ h r = cc
 
 pub in_dump : (names : Names) (due : Due) (p : Payload) (es : List EventValue) → IsInDump due → Answers names due p es → (e : EventValue) × Carries names p e × (es ≡ e ∷ [])
-in_dump names Hello p es h a = absurd h
-in_dump names Reply p es h a = absurd h
-in_dump names SecondReply p es h a = absurd h
-in_dump names QueryReply p es h a = absurd h
 in_dump names InDump p es h a = a
+in_dump names _ p es h a = absurd h
 
 -- ---- Two readings of the same bytes.
 
@@ -239,35 +228,20 @@ apart : (A : Type 0) (o : Option A) (v : A) → o ≡ None → o ≡ Some v → 
 apart A o v none some = cc
 
 eof_none : (due : Due) (p : Payload) → IsInDump due → IsEofPacket p → refusal_of due p ≡ None
-eof_none Hello p h eof = absurd h
-eof_none Reply p h eof = absurd h
-eof_none SecondReply p h eof = absurd h
-eof_none QueryReply p h eof = absurd h
 eof_none InDump p h eof = eof_not_refused p eof
+eof_none _ p h eof = absurd h
 
 eof_denied : (names : Names) (due : Due) (es : List EventValue) (p : Payload) (reason : Reason) → IsInDump due → IsEofPacket p → Denies names due es p reason → ⊥
-eof_denied names due es p EndOfInput h eof d = d
-eof_denied names due es p SourceEof h eof d = d
 eof_denied names due es p (SourceError code state message) h eof d = apart Refusal (refusal_of due p) (server_error code state message.items) (eof_none due p h eof) d.1
-eof_denied names due es p (Wire fault) h eof d = d
 eof_denied names due es p (Greet fault) h eof d = nothing_refused fault d.1 (subst (λ v. Refuses v fault) (eof_none due p h eof) d.2)
 eof_denied names due es p (Event fault) h eof d = no_eof names p d.1 d.2 eof
 eof_denied names due es p (Gather fault) h eof d = no_eof names p d.2.body d.2.payload_is eof
-eof_denied names due es p (Refused refusal) h eof d = d
-eof_denied names due es p (Database cause) h eof d = d
-eof_denied names due es p Memory h eof d = d
-eof_denied names due es p ReadFailed h eof d = d
-eof_denied names due es p WriteFailed h eof d = d
-eof_denied names due es p Halted h eof d = d
-eof_denied names due es p Until h eof d = d
+eof_denied names due es p _ h eof d = d
 
 module _ (limit : ℕ) (names : Names) (due : Due) (es : List EventValue) (taken id : ℕ) (r : List ℕ) where
   -- an end after which nothing goes on: what the payload reports
   denied : (reason : Reason) (p : Payload) (first others fs : List EventValue) (ds : List DeliveryValue) → AllByRecursion (λ b. b < 256) p → Answers names due p first → fs ≡ es ++ (first ++ others) → AreDeliveries fs ds → Denies names due es p reason → ⊥
-  denied EndOfInput p first others fs ds fits a split are d = d
-  denied SourceEof p first others fs ds fits a split are d = d
   denied (SourceError code state message) p first others fs ds fits a split are d = apart Refusal (refusal_of due p) (server_error code state message.items) (answered names due p first a d.0) d.1
-  denied (Wire fault) p first others fs ds fits a split are d = d
   denied (Greet fault) p first others fs ds fits a split are d = nothing_refused fault d.1 (subst (λ v. Refuses v fault) (answered names due p first a d.0) d.2)
   denied (Event fault) p first others fs ds fits a split are d =
       let k = in_dump names due p first d.0 a in
@@ -280,13 +254,7 @@ module _ (limit : ℕ) (names : Names) (due : Due) (es : List EventValue) (taken
       let one : first ≡ d.1 ∷ [] = k.2 ∙ ap (λ e. e ∷ []) (carries_same names p k.0 d.1 k.1 d.2) in
       let body : AllByRecursion (λ b. b < 256) (0x00 ∷ d.2.body) = subst (λ l. AllByRecursion (λ b. b < 256) l) d.2.payload_is fits in
       not_both es d.1 fault (record { names = names; bytes = d.2.body; fits = body.1; is_event = d.2.is_event }) (lawful es first others fs ds d.1 split one are) d.3
-  denied (Refused refusal) p first others fs ds fits a split are d = d
-  denied (Database cause) p first others fs ds fits a split are d = d
-  denied Memory p first others fs ds fits a split are d = d
-  denied ReadFailed p first others fs ds fits a split are d = d
-  denied WriteFailed p first others fs ds fits a split are d = d
-  denied Halted p first others fs ds fits a split are d = d
-  denied Until p first others fs ds fits a split are d = d
+  denied _ p first others fs ds fits a split are d = d
 
   module _ (x y : List ℕ) (fs : List EventValue) (ds : List DeliveryValue) (f : Further limit names due id x es r y fs) (taken_is : taken ≡ length x) (bytes : AllByRecursion (λ b. b < 256) r) (within : length y < 2 ^ 64) (are : AreDeliveries fs ds) where
     fits : taken + length f.packing < 2 ^ 64
@@ -312,13 +280,7 @@ module _ (limit : ℕ) (names : Names) (due : Due) (es : List EventValue) (taken
     blocked at (Greet fault) s = with (Greet fault) s.1
     blocked at (Event fault) s = with (Event fault) s.1
     blocked at (Gather fault) s = with (Gather fault) s.1
-    blocked at (Refused refusal) s = s
-    blocked at (Database cause) s = s
-    blocked at Memory s = s
-    blocked at ReadFailed s = s
-    blocked at WriteFailed s = s
-    blocked at Halted s = s
-    blocked at Until s = s
+    blocked at _ s = s
 
   -- an end of the log is not an end of another kind
   ends_so : (reason : Reason) (other : ℕ) → EndsLog limit names due es taken id r other → EndsWith limit names due es taken id r reason → ⊥
@@ -337,13 +299,7 @@ module _ (limit : ℕ) (names : Names) (due : Due) (es : List EventValue) (taken
   no_log other at (Greet fault) l s h = ends_so (Greet fault) other l s.1
   no_log other at (Event fault) l s h = ends_so (Event fault) other l s.1
   no_log other at (Gather fault) l s h = ends_so (Gather fault) other l s.1
-  no_log other at (Refused refusal) l s h = s
-  no_log other at (Database cause) l s h = s
-  no_log other at Memory l s h = s
-  no_log other at ReadFailed l s h = s
-  no_log other at WriteFailed l s h = s
-  no_log other at Halted l s h = s
-  no_log other at Until l s h = s
+  no_log other at _ l s h = s
 
   -- where it stops
   offset_of : (at : ℕ) (reason : Reason) → StopsFor limit names due es taken id r at reason → ((at ≡ taken) × (reason ≢ SourceEof)) ⊎ EndsLog limit names due es taken id r at
@@ -354,13 +310,7 @@ module _ (limit : ℕ) (names : Names) (due : Due) (es : List EventValue) (taken
   offset_of at (Greet fault) s = inl (s.0, λ e. cc)
   offset_of at (Event fault) s = inl (s.0, λ e. cc)
   offset_of at (Gather fault) s = inl (s.0, λ e. cc)
-  offset_of at (Refused refusal) s = absurd s
-  offset_of at (Database cause) s = absurd s
-  offset_of at Memory s = absurd s
-  offset_of at ReadFailed s = absurd s
-  offset_of at WriteFailed s = absurd s
-  offset_of at Halted s = absurd s
-  offset_of at Until s = absurd s
+  offset_of at _ s = absurd s
 
   one_offset : (at other : ℕ) (reason also : Reason) → StopsFor limit names due es taken id r at reason → StopsFor limit names due es taken id r other also → at ≡ other
   one_offset at other reason also s t = elim (offset_of at reason s) [
@@ -433,11 +383,8 @@ in_dump_heard names (byte ∷ body) = if byte == 0x00 then of_event (event_fault
 
 -- what a payload means by itself, where this message is expected
 abbrev heard : Names → Due → Payload → Heard
-heard names Hello p = of_refusal (refusal_of Hello p)
-heard names Reply p = of_refusal (refusal_of Reply p)
-heard names SecondReply p = of_refusal (refusal_of SecondReply p)
-heard names QueryReply p = of_refusal (refusal_of QueryReply p)
 heard names InDump p = in_dump_heard names p
+heard names due p = of_refusal (refusal_of due p)
 
 dump_refused : (names : Names) (p : Payload) (v : Option Refusal) → begins_event p ≡ false → refusal_of InDump p ≡ v → in_dump_heard names p ≡ of_refusal v
 dump_refused names [] v none e = ap of_refusal e
@@ -445,35 +392,21 @@ dump_refused names (byte ∷ body) v none e =
     subst (λ t. (if t then of_event (event_fault names body) else of_refusal (refusal_of InDump (byte ∷ body))) ≡ of_refusal v) (sym none) (ap of_refusal e)
 
 heard_refused : (names : Names) (due : Due) (p : Payload) (v : Option Refusal) → IsNoEvent due p → refusal_of due p ≡ v → heard names due p ≡ of_refusal v
-heard_refused names Hello p v none e = ap of_refusal e
-heard_refused names Reply p v none e = ap of_refusal e
-heard_refused names SecondReply p v none e = ap of_refusal e
-heard_refused names QueryReply p v none e = ap of_refusal e
 heard_refused names InDump p v none e = dump_refused names p v none e
+heard_refused names _ p v none e = ap of_refusal e
 
 heard_event : (names : Names) (due : Due) (p body : List ℕ) (v : Option EventFault) → IsInDump due → p ≡ 0x00 ∷ body → event_fault names body ≡ v → heard names due p ≡ of_event v
-heard_event names Hello p body v h is e = absurd h
-heard_event names Reply p body v h is e = absurd h
-heard_event names SecondReply p body v h is e = absurd h
-heard_event names QueryReply p body v h is e = absurd h
 heard_event names InDump p body v h is e = ap (λ l. in_dump_heard names l) is ∙ ap of_event e
+heard_event names _ p body v h is e = absurd h
 
 eof_no_event : (due : Due) (p : Payload) → IsEofPacket p → IsNoEvent due p
-eof_no_event Hello p eof = tt
-eof_no_event Reply p eof = tt
-eof_no_event SecondReply p eof = tt
-eof_no_event QueryReply p eof = tt
 eof_no_event InDump p eof = ap (λ l. begins_event l) eof.payload_is
+eof_no_event _ p eof = tt
 
 refused_for : (refusal : Option Refusal) (fault : GreetFault) → IsOfMessage fault → Refuses refusal fault → refusal ≡ Some (reported_refusal fault)
 refused_for refusal (greet.ServerError code state message) h r = absurd h
-refused_for refusal (greet.Protocol byte) h r = r
-refused_for refusal greet.Truncated h r = r
-refused_for refusal (greet.Capabilities bits) h r = r
-refused_for refusal greet.Plugin h r = r
-refused_for refusal greet.OldAuth h r = r
-refused_for refusal (greet.Unexpected byte) h r = r
 refused_for refusal greet.Memory h r = absurd h
+refused_for refusal _ h r = r
 
 unfinished_right : (id limit : ℕ) (r : List ℕ) (fault : WireFault) → IsUnfinished id limit r → IsWrong id limit r fault → ⊥
 unfinished_right id limit r (wire.Sequence want got) u h = u.in_sequence want got h
@@ -541,13 +474,7 @@ module _ (limit : ℕ) (names : Names) (due : Due) (es : List EventValue) (taken
           verdict = refl;
         });
       }
-  tells at (Refused refusal) s = absurd s
-  tells at (Database cause) s = absurd s
-  tells at Memory s = absurd s
-  tells at ReadFailed s = absurd s
-  tells at WriteFailed s = absurd s
-  tells at Halted s = absurd s
-  tells at Until s = absurd s
+  tells at _ s = absurd s
 
   same_verdict : (p : Payload) (a b : Verdict) → AllByRecursion (λ v. v < 256) p → SaysSo p a → SaysSo p b → a ≡ b
   same_verdict p a b fits x y = elim x [

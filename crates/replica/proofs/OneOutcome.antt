@@ -1,5 +1,5 @@
 -- What a connection comes to is determined by its bytes and the content before.
-use Rattle.replica.proofs.Names.{◌≡◌, ◌≤◌, ◌<◌, ◌+◌, ℕ, zero, suc, ◌⊎◌, Bool, true, false, List, [], ◌∷◌, ◌++◌, length, Some, None, refl, sym, ap, ◌∙◌, inl, inr, subst, arith, append_assoc, append-nil, MatchBool, length-append, false≢true, AllByRecursion, Names, EventValue, ChangeValue, DeliveryValue, AreDeliveries, IsFromBytes, one_list_of_deliveries, row_of, Bag, Content, IsMade, IsRefused, IsRefusedAt, is_admitted, AreDone, is_executed, most, NoSuchRow, CountFull, Reason, EndOfInput, SourceEof, SourceError, Wire, Greet, Event, Gather, Refused, Database, Memory, ReadFailed, WriteFailed, Halted, Until, Ended, Due, Hello, Reply, SecondReply, QueryReply, InDump, IsInDump, Carries, Answers, Talks, Reading, next_due, next_id, due_from, due_after, Payload, StopsFor, End, AppliesAll, IsRefusedBy, IsDumpTooLong, Why, Conn, IsInFull}
+use Rattle.replica.proofs.Names.{◌≡◌, ◌≤◌, ◌<◌, ◌+◌, ℕ, zero, suc, ◌⊎◌, Bool, true, false, List, [], ◌∷◌, ◌++◌, length, Some, None, refl, sym, ap, ◌∙◌, inl, inr, subst, arith, append_assoc, append-nil, MatchBool, length-append, false≢true, AllByRecursion, Names, EventValue, ChangeValue, DeliveryValue, AreDeliveries, IsFromBytes, one_list_of_deliveries, row_of, Bag, Content, IsMade, IsRefused, IsRefusedAt, is_admitted, AreDone, is_executed, most, NoSuchRow, CountFull, Reason, Wire, Refused, Database, Memory, ReadFailed, WriteFailed, Halted, Until, Ended, Due, Hello, QueryReply, InDump, IsInDump, Carries, Answers, Talks, Reading, next_due, next_id, due_from, due_after, Payload, StopsFor, End, AppliesAll, IsRefusedBy, IsDumpTooLong, Why, Conn, IsInFull}
 use Rattle.wire.specs.declared.fault.WireFault.TheVariants as wire
 use Rattle.gather.specs.Transaction.{insert, delete, update}
 use Rattle.gather.proofs.ShorterLists as shortening
@@ -18,13 +18,10 @@ use Rattle.replica.proofs.OneEnd.{Ahead, stops_same, Same, Further, both_read, n
 -- ---- The events of a conversation are read from bytes.
 
 answered_read : (names : Names) (due : Due) (p : Payload) (es : List EventValue) → AllByRecursion (λ b. b < 256) p → Answers names due p es → AllByRecursion IsFromBytes es
-answered_read names Hello p es fits a = subst (λ l. AllByRecursion IsFromBytes l) (sym a.1) tt
-answered_read names Reply p es fits a = subst (λ l. AllByRecursion IsFromBytes l) (sym a.1) tt
-answered_read names SecondReply p es fits a = subst (λ l. AllByRecursion IsFromBytes l) (sym a.1) tt
-answered_read names QueryReply p es fits a = subst (λ l. AllByRecursion IsFromBytes l) (sym a.1) tt
 answered_read names InDump p es fits a =
     let body : AllByRecursion (λ b. b < 256) (0x00 ∷ a.1.body) = subst (λ l. AllByRecursion (λ b. b < 256) l) a.1.payload_is fits in
     subst (λ l. AllByRecursion IsFromBytes l) (sym a.2) (record { names = names; bytes = a.1.body; fits = body.1; is_event = a.1.is_event }, tt)
+answered_read names _ p es fits a = subst (λ l. AllByRecursion IsFromBytes l) (sym a.1) tt
 
 pub talked_read : (limit : ℕ) (names : Names) (due : Due) (id : ℕ) (ps : List Payload) (x : List ℕ) (es : List EventValue) (last : ℕ) → AllByRecursion (λ b. b < 256) x → Talks limit names due id ps x es last
     → AllByRecursion IsFromBytes es
@@ -59,13 +56,7 @@ module _ (limit : ℕ) (names : Names) (due : Due) (es : List EventValue) (ds : 
 
 kind_of : (limit : ℕ) (names : Names) (due : Due) (es : List EventValue) (ds : List DeliveryValue) (taken id : ℕ) (rest : List ℕ) (was : Bool) (old new : Content) (at : ℕ) (reason : Reason) → IsInFull reason → Why limit names due es ds taken id rest was old new at reason
     → ByBytes limit names due es ds taken id rest old new at reason ⊎ (ByRefusal limit names due es ds taken id rest old new at reason ⊎ ByLength limit names due es ds taken id rest old new at reason)
-kind_of limit names due es ds taken id rest was old new at EndOfInput h w = inl (record { of = tt; stops = w })
-kind_of limit names due es ds taken id rest was old new at SourceEof h w = inl (record { of = tt; stops = w })
-kind_of limit names due es ds taken id rest was old new at (SourceError code state message) h w = inl (record { of = tt; stops = w })
 kind_of limit names due es ds taken id rest was old new at (Wire f) h w = elim w [ inl s ↦ inl (record { of = tt; stops = s }) | inr t ↦ inr (inr (record { reason_is = ap (λ v. Wire v) t.0; at_is = t.1; next = t.2; long = t.3 })) ]
-kind_of limit names due es ds taken id rest was old new at (Greet f) h w = inl (record { of = tt; stops = w })
-kind_of limit names due es ds taken id rest was old new at (Event f) h w = inl (record { of = tt; stops = w })
-kind_of limit names due es ds taken id rest was old new at (Gather f) h w = inl (record { of = tt; stops = w })
 kind_of limit names due es ds taken id rest was old new at (Refused refusal) h w = inr (inl (record { refusal = refusal; reason_is = refl; at_is = w.0; next = w.1 }))
 kind_of limit names due es ds taken id rest was old new at (Database cause) h w = absurd h
 kind_of limit names due es ds taken id rest was old new at Memory h w = absurd h
@@ -73,15 +64,9 @@ kind_of limit names due es ds taken id rest was old new at ReadFailed h w = absu
 kind_of limit names due es ds taken id rest was old new at WriteFailed h w = absurd h
 kind_of limit names due es ds taken id rest was old new at Halted h w = absurd h
 kind_of limit names due es ds taken id rest was old new at Until h w = absurd h
+kind_of limit names due es ds taken id rest was old new at _ h w = inl (record { of = tt; stops = w })
 
 none_refused : (reason : Reason) → IsOfBytes reason → refused_by reason ≡ None
-none_refused EndOfInput h = refl
-none_refused SourceEof h = refl
-none_refused (SourceError code state message) h = refl
-none_refused (Wire f) h = refl
-none_refused (Greet f) h = refl
-none_refused (Event f) h = refl
-none_refused (Gather f) h = refl
 none_refused (Refused refusal) h = absurd h
 none_refused (Database cause) h = absurd h
 none_refused Memory h = absurd h
@@ -89,6 +74,7 @@ none_refused ReadFailed h = absurd h
 none_refused WriteFailed h = absurd h
 none_refused Halted h = absurd h
 none_refused Until h = absurd h
+none_refused _ h = refl
 
 -- ---- A refused transaction is not taken, and is refused for one reason.
 
@@ -183,11 +169,8 @@ last_same [] x y e = head_of x y [] [] e
 last_same (d ∷ ds) x y e = last_same ds x y (tail_of d d (ds ++ x ∷ []) (ds ++ y ∷ []) e)
 
 pub in_dump_answer : (names : Names) (due : Due) (p : Payload) (e : EventValue) → IsInDump due → Carries names p e → Answers names due p (e ∷ [])
-in_dump_answer names Hello p e h c = absurd h
-in_dump_answer names Reply p e h c = absurd h
-in_dump_answer names SecondReply p e h c = absurd h
-in_dump_answer names QueryReply p e h c = absurd h
 in_dump_answer names InDump p e h c = (e, c, refl)
+in_dump_answer names _ p e h c = absurd h
 
 -- ---- The next payload ends a transaction that is refused.
 

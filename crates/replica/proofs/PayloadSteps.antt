@@ -1,5 +1,5 @@
 -- A session takes a payload.
-use Rattle.replica.proofs.Names.{◌≡◌, ◌≢◌, ℕ, ◌+◌, ◌^◌, ◌<◌, ◌≤◌, Bool, List, [], ◌∷◌, ◌++◌, length, Some, None, MatchOption, inl, inr, refl, sym, ap, subst, ◌∙◌, append_assoc, append-nil, arith, length-append, packing_length, ReaderState, IsUnfinished, Payload, nothing_yet, length_packing, Names, Gatherer, Content, Reason, EndOfInput, SourceEof, SourceError, Wire, Greet, Event, Gather, Refused, Database, Memory, ReadFailed, WriteFailed, Halted, Until, Ended, Phase, Session, Settings, Hello, IsInDump, next_due, next_id, due_after, StopsAt, AppliesAll, Why, BreaksStore, SentFor, GoesOn, HasEnded, HasPayload, due_at, due_of, room_of, IsAnswered, EndsAt}
+use Rattle.replica.proofs.Names.{◌≡◌, ◌≢◌, ℕ, ◌+◌, ◌^◌, ◌<◌, ◌≤◌, Bool, List, [], ◌∷◌, ◌++◌, length, Some, None, MatchOption, inl, inr, refl, sym, ap, subst, ◌∙◌, append_assoc, append-nil, arith, length-append, packing_length, ReaderState, IsUnfinished, Payload, nothing_yet, length_packing, Names, Gatherer, Content, Reason, EndOfInput, SourceError, Wire, Greet, Memory, Ended, Phase, Session, Settings, Hello, IsInDump, next_due, next_id, due_after, StopsAt, AppliesAll, Why, BreaksStore, SentFor, GoesOn, HasEnded, HasPayload, due_at, due_of, room_of, IsAnswered, EndsAt}
 use Rattle.wire.specs.declared.fault.WireFault.TheVariants as wire
 use Rattle.replica.specs.declared.phase.Phase.TheVariants as phases
 use Rattle.replica.specs.declared.phase.Login.{Login}
@@ -34,9 +34,7 @@ room_left s new end n at held was end_is within =
 -- the message expected before the dump
 no_dump : (at : Login) → IsInDump (due_at at) → ⊥
 no_dump login.Greeting i = i
-no_dump login.Reply i = i
-no_dump login.SecondReply i = i
-no_dump login.QueryReply i = i
+no_dump _ i = i
 
 pub not_dump : (phase : Phase) (at : Login) → phase ≡ phases.Login at → IsInDump (due_of phase) → ⊥
 not_dump phase at is i = no_dump at (subst (λ x. IsInDump (due_of x)) is i)
@@ -125,20 +123,11 @@ module _ (settings : Settings) (assembly : ReaderState) (gatherer : Gatherer) (w
 
   -- a message before the dump ends it
   pub message_ends_it : (reason : Reason) → at + length h.reading.rest < 2 ^ 64 → EndsAt names old.executed (due_of waits) p reason → HasEnded settings names was is old now b all (record { reason = reason; at = at; applied = applied })
-  message_ends_it EndOfInput within e = absurd e
-  message_ends_it SourceEof within e = absurd e
   message_ends_it (SourceError code state message) within e =
       ended (SourceError code state message) is (λ q. cc) (h.at_is, record { payload = p; stops = stops within; denied = subst (λ x. Rattle.replica.specs.End.Denies names x h.reading.events p (SourceError code state message)) h.awaits e }) h.store
   message_ends_it (Wire f) within e =
       ended (Wire f) is (λ q. cc) (inr (e.0, h.at_is, record { payload = p; stops = stops within; due_is = sym h.awaits ∙ e.1; is_ok = e.2 }, e.3)) h.store
   message_ends_it (Greet f) within e =
       ended (Greet f) is (λ q. cc) (h.at_is, record { payload = p; stops = stops within; denied = subst (λ x. Rattle.replica.specs.End.Denies names x h.reading.events p (Greet f)) h.awaits e }) h.store
-  message_ends_it (Event f) within e = absurd e
-  message_ends_it (Gather f) within e = absurd e
-  message_ends_it (Refused f) within e = absurd e
-  message_ends_it (Database f) within e = absurd e
   message_ends_it Memory within e = ended Memory is (λ q. cc) h.at_is (λ w. h.store ∙ w)
-  message_ends_it ReadFailed within e = absurd e
-  message_ends_it WriteFailed within e = absurd e
-  message_ends_it Halted within e = absurd e
-  message_ends_it Until within e = absurd e
+  message_ends_it _ within e = absurd e

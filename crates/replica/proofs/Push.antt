@@ -18,11 +18,8 @@ stays_in_dump [] = tt
 stays_in_dump (p ∷ ps) = stays_in_dump ps
 
 pub in_dump : (d : Due) → IsInDump d → d ≡ InDump
-in_dump Hello h = absurd h
-in_dump Reply h = absurd h
-in_dump SecondReply h = absurd h
-in_dump QueryReply h = absurd h
 in_dump InDump h = refl
+in_dump _ h = absurd h
 
 abbrev id_of : Due → ℕ
 id_of Hello = 0
@@ -39,11 +36,9 @@ id_of_phase (phases.Login login.QueryReply) = refl
 id_of_phase phases.Dump = refl
 
 id_of_next : (d : Due) (p : Payload) (after : ℕ) → (IsInDump d → ⊥) → id_of (next_due d p) ≡ next_id d p after
-id_of_next Hello p after n = refl
 id_of_next Reply p after n = elim (begins_switch p) as (λ b. id_of (if b then SecondReply else QueryReply) ≡ (if b then 4 else 1)) [ true ↦ refl | false ↦ refl ]
-id_of_next SecondReply p after n = refl
-id_of_next QueryReply p after n = refl
 id_of_next InDump p after n = absurd (n tt)
+id_of_next _ p after n = refl
 
 pub id_is_next : (d : Due) (p : Payload) (after : ℕ) (phase : Phase) → (IsInDump d → ⊥) → due_of phase ≡ next_due d p → first_id_of phase ≡ next_id d p after
 id_is_next d p after phase n is = id_of_phase phase ∙ ap id_of is ∙ id_of_next d p after n

@@ -1,5 +1,5 @@
 -- What an end reports.
-use Rattle.replica.proofs.Names.{◌≡◌, ◌⊎◌, ap, ℕ, Bool, List, ◌++◌, length, refl, inl, inr, Some, None, MatchOption, unwrap_or, Names, Content, Reason, EndOfInput, SourceEof, SourceError, Wire, Greet, Event, Gather, Refused, Database, Memory, ReadFailed, WriteFailed, Halted, Until, Ended, Session, Reading, due_after, End, StopsFor, Conn, AppliesFirst, Why, IsDumpTooLong, GoesOn, HasEnded, end_of}
+use Rattle.replica.proofs.Names.{◌≡◌, ◌⊎◌, ap, ℕ, Bool, List, ◌++◌, length, refl, inl, inr, Some, None, MatchOption, unwrap_or, Names, Content, Reason, EndOfInput, SourceEof, SourceError, Wire, Greet, Event, Gather, Ended, Session, Reading, due_after, End, StopsFor, Conn, AppliesFirst, Why, IsDumpTooLong, GoesOn, HasEnded, end_of}
 use Rattle.std.proofs.Common.{◌↔◌}
 use Rattle.wire.specs.declared.fault.WireFault.TheVariants as wire
 use Rattle.replica.specs.Conn.{IsOfBytes}
@@ -18,13 +18,7 @@ stops_of limit names was old new b r at (Wire fault) h w = elim w [ inl s ↦ in
 stops_of limit names was old new b r at (Greet fault) h w = inl w
 stops_of limit names was old new b r at (Event fault) h w = inl w
 stops_of limit names was old new b r at (Gather fault) h w = inl w
-stops_of limit names was old new b r at (Refused refusal) h w = absurd h
-stops_of limit names was old new b r at (Database cause) h w = absurd h
-stops_of limit names was old new b r at Memory h w = absurd h
-stops_of limit names was old new b r at ReadFailed h w = absurd h
-stops_of limit names was old new b r at WriteFailed h w = absurd h
-stops_of limit names was old new b r at Halted h w = absurd h
-stops_of limit names was old new b r at Until h w = absurd h
+stops_of limit names was old new b r at _ h w = absurd h
 
 pub end_by : (limit : ℕ) (names : Names) (was : Bool) (old : Content) (b : List ℕ) (new : Content) (end : Ended) → Conn limit names was old b new end → IsOfBytes end.reason
     → End limit names b end.reason end.at ⊎ ((end.reason ≡ Wire wire.TooLarge) × IsDumpTooLong old.executed)

@@ -1,5 +1,5 @@
 -- A connection's bytes have an end.
-use Rattle.replica.proofs.Names.{◌≡◌, ℕ, zero, suc, ◌+◌, ◌^◌, ◌<◌, ◌⊎◌, false, List, [], ◌∷◌, ◌++◌, length, refl, sym, ap, subst, ◌∙◌, inl, inr, arith, append_assoc, append-nil, length-append, false≢true, AllByRecursion, WireFault, IsUnfinished, Payload, length_packing, Names, EventValue, DeliveryValue, AreDeliveries, IsFromBytes, Content, Reason, EndOfInput, SourceEof, SourceError, Wire, Greet, Event, Gather, Refused, Database, Memory, ReadFailed, WriteFailed, Halted, Until, Due, Hello, Reply, SecondReply, QueryReply, InDump, IsInDump, Carries, Answers, Reading, next_due, next_id, due_after, HasNext, StopsAt, IsWrong, Denies, AppliesAll, IsDumpTooLong, Why, IsInFull}
+use Rattle.replica.proofs.Names.{◌≡◌, ℕ, zero, suc, ◌+◌, ◌^◌, ◌<◌, ◌⊎◌, false, List, [], ◌∷◌, ◌++◌, length, refl, sym, ap, subst, ◌∙◌, inl, inr, arith, append_assoc, append-nil, length-append, false≢true, AllByRecursion, WireFault, IsUnfinished, Payload, length_packing, Names, EventValue, DeliveryValue, AreDeliveries, IsFromBytes, Content, Reason, EndOfInput, SourceEof, SourceError, Wire, Greet, Event, Gather, Refused, Due, Hello, QueryReply, IsInDump, Carries, Answers, Reading, next_due, next_id, due_after, HasNext, StopsAt, IsWrong, Denies, AppliesAll, IsDumpTooLong, Why, IsInFull}
 use Rattle.wire.specs.declared.fault.WireFault.TheVariants as wire
 use Rattle.wire.specs.Stream.{Ending, Held, OutOfSequence, TooLarge, IsStream}
 use Rattle.wire.proofs.SomeReading.{some_reading}
@@ -34,30 +34,18 @@ packing_some limit id rest p n = omega (arith, ap length n.bytes, length-append 
 -- ---- Whether the dump is asked for now.
 
 query : (due : Due) → (due ≡ QueryReply) ⊎ (due ≡ QueryReply → ⊥)
-query Hello = inr (λ e. cc)
-query Reply = inr (λ e. cc)
-query SecondReply = inr (λ e. cc)
 query QueryReply = inl refl
-query InDump = inr (λ e. cc)
+query _ = inr (λ e. cc)
 
 -- ---- A payload that is not the expected message ends the connection.
 
 module _ (limit : ℕ) (names : Names) (due : Due) (es : List EventValue) (ds : List DeliveryValue) (taken id : ℕ) (rest : List ℕ) (old new : Content) where
   denied_so : (p : Payload) (reason : Reason) → StopsAt limit names due es taken id rest p → Denies names due es p reason → IsInFull reason × Why limit names due es ds taken id rest false old new taken reason
-  denied_so p EndOfInput s d = absurd d
-  denied_so p SourceEof s d = absurd d
   denied_so p (SourceError code state message) s d = (tt, (refl, record { payload = p; stops = s; denied = d }))
-  denied_so p (Wire fault) s d = absurd d
   denied_so p (Greet fault) s d = (tt, (refl, record { payload = p; stops = s; denied = d }))
   denied_so p (Event fault) s d = (tt, (refl, record { payload = p; stops = s; denied = d }))
   denied_so p (Gather fault) s d = (tt, (refl, record { payload = p; stops = s; denied = d }))
-  denied_so p (Refused refusal) s d = absurd d
-  denied_so p (Database cause) s d = absurd d
-  denied_so p Memory s d = absurd d
-  denied_so p ReadFailed s d = absurd d
-  denied_so p WriteFailed s d = absurd d
-  denied_so p Halted s d = absurd d
-  denied_so p Until s d = absurd d
+  denied_so p _ s d = absurd d
 
 -- ---- One payload more.
 

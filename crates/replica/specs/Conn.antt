@@ -17,7 +17,7 @@ use Rattle.store.specs.declared.row_change.Refusal.TheVariants as why
 use Rattle.replica.specs.declared.end.Refusal.{Refusal}
 use Rattle.replica.specs.declared.end.Refusal.TheVariants.{NoSuchRow, CountFull}
 use Rattle.replica.specs.declared.end.Reason.{Reason}
-use Rattle.replica.specs.declared.end.Reason.TheVariants.{EndOfInput, SourceEof, SourceError, Wire, Greet, Event, Gather, Refused, Database, Memory, ReadFailed, WriteFailed, Halted, Until}
+use Rattle.replica.specs.declared.end.Reason.TheVariants.{EndOfInput, Wire, Refused, Database, Memory, ReadFailed, WriteFailed, Halted, Until}
 use Rattle.replica.specs.declared.end.Ended.{Ended}
 use Rattle.replica.specs.Stream.{Due, QueryReply, IsInDump, Carries, Reading, due_after}
 use Rattle.wire.specs.Payload.{Payload}
@@ -104,15 +104,9 @@ module _ (limit : ℕ) (names : Names) (due : Due) (es : List EventValue) (ds : 
 
   -- Why a connection ends at this offset, for a store that had failed before or not.
   abbrev pub Why : Bool → Content → Content → ℕ → Reason → Type 0
-  Why was old new at EndOfInput = StopsFor limit names due es taken id rest at EndOfInput
-  Why was old new at SourceEof = StopsFor limit names due es taken id rest at SourceEof
-  Why was old new at (SourceError code state message) = StopsFor limit names due es taken id rest at (SourceError code state message)
-  -- or the dump command would be too long
+  -- a header is wrong, or the dump command would be too long
   Why was old new at (Wire f) =
       StopsFor limit names due es taken id rest at (Wire f) ⊎ ((f ≡ wire.TooLarge) × (at ≡ taken) × NextAnswers × IsDumpTooLong old.executed)
-  Why was old new at (Greet f) = StopsFor limit names due es taken id rest at (Greet f)
-  Why was old new at (Event f) = StopsFor limit names due es taken id rest at (Event f)
-  Why was old new at (Gather f) = StopsFor limit names due es taken id rest at (Gather f)
   Why was old new at (Refused refusal) = (at ≡ taken) × IsRefusedNext new refusal
   Why was old new at (Database cause) = (at ≡ taken) × FailsNext was new cause
   Why was old new at Memory = at ≡ taken
@@ -122,6 +116,8 @@ module _ (limit : ℕ) (names : Names) (due : Due) (es : List EventValue) (ds : 
   Why was old new at Halted = (at ≡ taken) × IsNextNew new
   -- the observer waits for nothing more
   Why was old new at Until = at ≡ taken
+  -- the other reasons are caused by the bytes
+  Why was old new at reason = StopsFor limit names due es taken id rest at reason
 
 -- A connection with these bytes, for a store that had failed before or not, leads from old to new and has this end: a
 -- prefix of its bytes is a conversation, whose transactions are applied in order and none refused. If the store had

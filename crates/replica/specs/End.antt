@@ -11,7 +11,7 @@ use Rattle.binlog.specs.Filter.{Names}
 use Rattle.binlog.specs.Event.{EventValue, event_fault}
 use Rattle.gather.specs.Fault.{IsFault}
 use Rattle.replica.specs.declared.end.Reason.{Reason}
-use Rattle.replica.specs.declared.end.Reason.TheVariants.{EndOfInput, SourceEof, SourceError, Wire, Greet, Event, Gather, Refused, Database, Memory, ReadFailed, WriteFailed, Halted, Until}
+use Rattle.replica.specs.declared.end.Reason.TheVariants.{EndOfInput, SourceEof, SourceError, Wire, Greet, Event, Gather}
 use Rattle.replica.specs.Stream.{Due, IsInDump, Carries, Reading, due_after}
 use Rattle.replica.specs.Message.{refusal_of, IsNoEvent, IsOfMessage}
 
@@ -78,13 +78,7 @@ module _ (limit : ℕ) (names : Names) (due : Due) (es : List EventValue) (taken
   StopsFor at (Greet fault) = (at ≡ taken) × EndsWith (Greet fault)
   StopsFor at (Event fault) = (at ≡ taken) × EndsWith (Event fault)
   StopsFor at (Gather fault) = (at ≡ taken) × EndsWith (Gather fault)
-  StopsFor at (Refused refusal) = ⊥
-  StopsFor at (Database cause) = ⊥
-  StopsFor at Memory = ⊥
-  StopsFor at ReadFailed = ⊥
-  StopsFor at WriteFailed = ⊥
-  StopsFor at Halted = ⊥
-  StopsFor at Until = ⊥
+  StopsFor at _ = ⊥
 
 -- the reading of these bytes stops at this offset, for this reason
 abbrev pub Stops : (limit : ℕ) (names : Names) (b : List ℕ) → Reading limit names b → ℕ → Reason → Type 0

@@ -12,7 +12,7 @@ use Rattle.gtid.specs.Encoding.{IsEncoding}
 use Rattle.binlog.specs.Filter.{Names}
 use Rattle.binlog.specs.Event.{EventValue}
 use Rattle.replica.specs.declared.end.Reason.{Reason}
-use Rattle.replica.specs.declared.end.Reason.TheVariants.{EndOfInput, SourceEof, SourceError, Wire, Greet, Event, Gather, Refused, Database, Memory, ReadFailed, WriteFailed, Halted, Until}
+use Rattle.replica.specs.declared.end.Reason.TheVariants.{SourceEof, SourceError, Wire, Greet, Event, Gather, Refused, Database, Memory}
 use Rattle.gather.specs.Transaction.{DeliveryValue}
 use Rattle.gather.specs.Standing.{HasGathered as Gathers}
 use Rattle.gather.specs.declared.gatherer.Gatherer.{Gatherer}
@@ -54,18 +54,9 @@ pub record IsAnswered (settings : Settings) (names : Names) (executed : Ids) (du
 abbrev pub EndsAt : Names → Ids → Due → Payload → Reason → Type 0
 EndsAt names executed due p Memory = Unit {0}
 EndsAt names executed due p (Wire f) = (f ≡ wire.TooLarge) × (due ≡ QueryReply) × IsOkPacket p × IsDumpTooLong executed
-EndsAt names executed due p EndOfInput = ⊥
-EndsAt names executed due p SourceEof = ⊥
 EndsAt names executed due p (SourceError code state message) = Denies names due [] p (SourceError code state message)
 EndsAt names executed due p (Greet f) = Denies names due [] p (Greet f)
-EndsAt names executed due p (Event f) = ⊥
-EndsAt names executed due p (Gather f) = ⊥
-EndsAt names executed due p (Refused refusal) = ⊥
-EndsAt names executed due p (Database cause) = ⊥
-EndsAt names executed due p ReadFailed = ⊥
-EndsAt names executed due p WriteFailed = ⊥
-EndsAt names executed due p Halted = ⊥
-EndsAt names executed due p Until = ⊥
+EndsAt names executed due p _ = ⊥
 
 -- The dump command with the set was appended.
 pub record SendsDump (settings : Settings) (executed : Ids) (old new : List ℕ) : Type 0 where
@@ -89,14 +80,7 @@ EndsDump names es p (SourceError code state message) = Denies names InDump es p 
 EndsDump names es p (Greet f) = Denies names InDump es p (Greet f)
 EndsDump names es p (Event f) = Denies names InDump es p (Event f)
 EndsDump names es p (Gather f) = Denies names InDump es p (Gather f)
-EndsDump names es p EndOfInput = ⊥
-EndsDump names es p (Wire f) = ⊥
-EndsDump names es p (Refused refusal) = ⊥
-EndsDump names es p (Database cause) = ⊥
-EndsDump names es p ReadFailed = ⊥
-EndsDump names es p WriteFailed = ⊥
-EndsDump names es p Halted = ⊥
-EndsDump names es p Until = ⊥
+EndsDump names es p _ = ⊥
 
 -- The payload has an event that ends these transactions, one or none, and the gatherer was given it.
 pub record GathersMore (names : Names) (es : List EventValue) (ds : List DeliveryValue) (p : Payload) (more : List DeliveryValue) (gatherer : Gatherer) : Type 0 where

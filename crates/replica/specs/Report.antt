@@ -6,7 +6,7 @@ use Rattle.greet.specs.declared.fault.GreetFault.TheVariants as greet
 use Rattle.binlog.specs.declared.fault.EventFault.{EventFault}
 use Rattle.gather.specs.declared.fault.GatherFault.{GatherFault}
 use Rattle.replica.specs.declared.end.Reason.{Reason}
-use Rattle.replica.specs.declared.end.Reason.TheVariants.{EndOfInput, SourceEof, SourceError, Wire, Greet, Event, Gather, Refused, Database, Memory, ReadFailed, WriteFailed, Halted, Until}
+use Rattle.replica.specs.declared.end.Reason.TheVariants.{EndOfInput, SourceEof, SourceError, Wire, Greet, Event, Gather}
 
 -- What a payload that ends the connection means: the log ends; the payload is not the expected message; its event has a
 -- fault, or may not follow those before it.
@@ -34,7 +34,7 @@ reported_refusal (greet.Unexpected byte) = unexpected byte
 reported_refusal (greet.ServerError code state message) = server_error code state message.items
 reported_refusal greet.Memory = truncated
 
--- what a reason reports of the bytes; the last seven are not caused by them
+-- what a reason reports of the bytes; the last ones are not caused by them
 abbrev pub report_of : Reason → Report
 report_of EndOfInput = Nothing
 report_of SourceEof = Says EndsLog
@@ -43,10 +43,4 @@ report_of (Wire fault) = IsWrongHeader fault
 report_of (Greet fault) = Says (IsRefused (reported_refusal fault))
 report_of (Event fault) = Says (HasFault fault)
 report_of (Gather fault) = Says (IsOutOfOrder fault)
-report_of (Refused refusal) = Nothing
-report_of (Database cause) = Nothing
-report_of Memory = Nothing
-report_of ReadFailed = Nothing
-report_of WriteFailed = Nothing
-report_of Halted = Nothing
-report_of Until = Nothing
+report_of _ = Nothing

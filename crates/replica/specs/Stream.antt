@@ -50,11 +50,8 @@ abbrev pub due_after : List Payload → Due
 due_after ps = due_from Hello ps
 
 abbrev pub IsInDump : Due → Type 0
-IsInDump Hello = ⊥
-IsInDump Reply = ⊥
-IsInDump SecondReply = ⊥
-IsInDump QueryReply = ⊥
 IsInDump InDump = ⊤
+IsInDump _ = ⊥
 
 -- The payload is 0 and the event.
 pub record Carries (names : Names) (p : Payload) (e : EventValue) : Type 0 where

@@ -5,7 +5,7 @@ use Rattle.std.specs.Prelude.{slice_get, find, ◌==◌, ◌&&◌, not, is_some,
 use Rattle.std.specs.FinSet as set
 use Rattle.sqlite_schema.specs.Names.{same_name}
 use Rattle.sqlite.specs.Effect.{Database as Stored}
-use Rattle.store.specs.declared.fault.StoreFault.TheVariants.{NoSuchRow, CountFull, Database, Layout, Broken, Follows}
+use Rattle.store.specs.declared.fault.StoreFault.TheVariants.{Database, Layout, Follows}
 use Rattle.store.specs.Layout.{IsNoParent, tree_named, executed}
 use Rattle.store.specs.Entering.{IsRefusedOpening, IsLeft}
 use Rattle.store.proofs.SameSchema.{tables_again, next_again, vacant_again}
@@ -157,8 +157,6 @@ module _ (only names : Names) (content : Content) (s : State) (is_open : IsTrue 
 
 pub refused_for : (wanted : Option Names) (names : Names) (content : Content) (s : State) → IsDatabase s.now → IsLeft (names_for wanted) names content s.now.trees
     → (fault : StoreFault) (new : State) → IsTurned wanted s new fault → IsRefusedOpening wanted names fault
-refused_for wanted names content s sound left (NoSuchRow at) new t = inl t.0
-refused_for wanted names content s sound left (CountFull at) new t = inl t.0
 refused_for wanted names content s sound left (Database e) new t = inl tt
 refused_for wanted names content s sound left Memory new t = inl tt
 refused_for wanted names content s sound left Damaged new t =
@@ -167,8 +165,8 @@ refused_for wanted names content s sound left Damaged new t =
 refused_for wanted names content s sound left (Layout k) new t =
     let only = names_for wanted in
     inl (not_other only s.now names content k (left_of only names content s.now sound left) t.0)
-refused_for wanted names content s sound left Broken new t = inl t.0
 refused_for wanted names content s sound left Follows new t =
     let only = names_for wanted in
     let one = one_of only s.now t.0.0 names t.0.1 content (inr t.0.2) (left_of only names content s.now sound left) in
     inr (refl, λ is. t.0.3 (subst (IsWanted wanted) (sym one.0) is))
+refused_for wanted names content s sound left _ new t = inl t.0

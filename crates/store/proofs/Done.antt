@@ -7,7 +7,7 @@ use Rattle.sqlite.specs.declared.error.Error.TheVariants.{SqliteFailure}
 use Rattle.sqlite.specs.declared.error.ErrorCode.TheVariants.{ConstraintViolation}
 use Rattle.sqlite_schema.specs.declared.schema.Constraint.TheVariants.{Unique}
 use Rattle.sqlite_trees.specs.declared.error.StoreError.{StoreError}
-use Rattle.sqlite_trees.specs.declared.error.StoreError.TheVariants.{OutOfMemory, Io, Corrupt, Full, Broken, Unstorable}
+use Rattle.sqlite_trees.specs.declared.error.StoreError.TheVariants.{OutOfMemory}
 use Rattle.sqlite.specs.State.{Shown, store_error}
 use Rattle.store.specs.Rows.{key_of, IsCount}
 use Rattle.store.specs.Inside.{Inserts, Deletes}
@@ -22,11 +22,7 @@ taken = SqliteFailure (ConstraintViolation Unique)
 
 pub no_fault : (cause : StoreError) → taken ≢ store_error cause
 no_fault OutOfMemory e = absurd (cc)
-no_fault Io e = absurd (cc)
-no_fault Corrupt e = absurd (cc)
-no_fault Full e = absurd (cc)
-no_fault Broken e = absurd (cc)
-no_fault Unstorable e = absurd (cc)
+no_fault _ e = absurd (cc)
 
 -- what came of an INSERT of these rows
 pub done_inserted : (text : List ℕ) (params : Row) (keys : List Key) (old new : State) (outcome : Result ℕ Error) (r : Result Bool Error) → (r ≡ Ok true → IsOk outcome) → (r ≡ Ok false → outcome ≡ Err taken)

@@ -1,5 +1,5 @@
 -- What each statement of the migration does, where it succeeds.
-use Rattle.store.proofs.Names.{◌≡◌, ℕ, ℤ, codes, pos, List, [], ◌∷◌, map, filter, not, Bool, true, false, cond, None, Ok, Err, Result, OnOk, IsTrue, inl, inr, refl, sym, ap, ap₂, subst, subst₂, ◌∙◌, and-true, AllByRecursion, IsPermutation, is_eq, cases_Bool, is_eq-slice_cmp, IsPermutation-filter, all-put_row, Trees, put_row, without_rowid, Value, Null, Int, Real, Text, Blob, Binary, Row, Compare, Eq, col, lit, list_all, list_any, Table, Schema, all_has, has_filtered, edit_of, is_taken, are_fresh, put_all, without_all, table_named, created, without_table, KeepsRows, Given, Error, Database, IsDatabase, Tally, lacks_sequence, State, ExecutesInside, Executes, command_of, runs_as, one_permutation, IsGtid, AreGtids, id_cmp, id_cmp_total, id_cmp-same, Content, meta, held, spans, spans_text, follow, follow_text, executed_tree, meta_tree, held_tree, meta_at, held_at, follow_at, HasMeta, HasTable, IsApart, IsLaidOut, has_other_key, LiesBeside, HasRowids, IsMetaRow, SaysLayout, IsExecutedRow, id_in, meta_rows, held_rows, with_tables, IsCut, HasBare}
+use Rattle.store.proofs.Names.{◌≡◌, ℕ, ℤ, codes, pos, List, [], ◌∷◌, map, filter, not, Bool, true, false, cond, None, Ok, Err, Result, OnOk, IsTrue, inl, inr, refl, sym, ap, ap₂, subst, subst₂, ◌∙◌, and-true, AllByRecursion, IsPermutation, is_eq, cases_Bool, is_eq-slice_cmp, IsPermutation-filter, all-put_row, Trees, put_row, without_rowid, Value, Null, Int, Text, Binary, Row, Compare, Eq, col, lit, list_all, list_any, Table, Schema, all_has, has_filtered, edit_of, is_taken, are_fresh, put_all, without_all, table_named, created, without_table, KeepsRows, Given, Error, Database, IsDatabase, Tally, lacks_sequence, State, ExecutesInside, Executes, command_of, runs_as, one_permutation, IsGtid, AreGtids, id_cmp, id_cmp_total, id_cmp-same, Content, meta, held, spans, spans_text, follow, follow_text, executed_tree, meta_tree, held_tree, meta_at, held_at, follow_at, HasMeta, HasTable, IsApart, IsLaidOut, has_other_key, LiesBeside, HasRowids, IsMetaRow, SaysLayout, IsExecutedRow, id_in, meta_rows, held_rows, with_tables, IsCut, HasBare}
 use Rattle.std.specs.Prelude.{MatchBool}
 use Rattle.std.proofs.lemmas.Bool.{or_cases}
 use Rattle.sqlite_value.specs.Order.{column, value_cmp}
@@ -147,10 +147,8 @@ done_follow content old new (Err e) was h = tt
 equals_text : (v : Value) (t : List ℕ) → is_true (binary (Compare Eq Binary) v (Text t)) ≡ is_text t v
 unfolding binary
 equals_text Null t = refl
-equals_text (Int n) t = shown_bool (is_eq (value_cmp (Int n) (Text t))) ∙ ap is_eq (value_cmp-apart (Int n) (Text t) (λ e. cc))
-equals_text (Real x) t = shown_bool (is_eq (value_cmp (Real x) (Text t))) ∙ ap is_eq (value_cmp-apart (Real x) (Text t) (λ e. cc))
 equals_text (Text s) t = shown_bool (is_eq (value_cmp (Text s) (Text t))) ∙ ap is_eq (value_cmp-Text s t) ∙ is_eq-slice_cmp s t
-equals_text (Blob x) t = shown_bool (is_eq (value_cmp (Blob x) (Text t))) ∙ ap is_eq (value_cmp-apart (Blob x) (Text t) (λ e. cc))
+equals_text v t = shown_bool (is_eq (value_cmp v (Text t))) ∙ ap is_eq (value_cmp-apart v (Text t) (λ e. cc))
 
 abbrev is_layout : Row → Bool
 is_layout row = is_text (codes "layout") (column row 1)

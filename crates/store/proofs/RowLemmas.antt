@@ -1,5 +1,5 @@
 -- What an edit of a table does to the counts.
-use Rattle.store.proofs.Names.{◌≡◌, inl, inr, ℕ, ◌+◌, ◌-◌, ℤ, pos, List, [], ◌∷◌, filter, Bool, true, false, cond, refl, sym, ap, ◌∙◌, arith, not, ◌&&◌, and_parts, or_parts, cases_Bool, false_from_ne_true, bytes_eq-Decides, is_eq, match_ordering, Ordering, Less, Equal, Greater, AllByRecursion, Value, Null, Int, Real, Text, Blob, Row, value_cmp_total, all-put_row, IsPermutation, IsPermutation-refl, IsPermutation-trans, IsPermutation-cons, rowid, put_row, without_rowid, has_rowid, is_int, is_taken, all_has, has_filtered, Key, alike, HasRowids, same_key, is_blob, is_at, count, with_one, without_one}
+use Rattle.store.proofs.Names.{◌≡◌, inl, inr, ℕ, ◌+◌, ◌-◌, ℤ, pos, List, [], ◌∷◌, filter, Bool, true, false, cond, refl, sym, ap, ◌∙◌, arith, not, ◌&&◌, and_parts, or_parts, cases_Bool, false_from_ne_true, bytes_eq-Decides, is_eq, match_ordering, Ordering, Less, Equal, Greater, AllByRecursion, Value, Int, Blob, Row, value_cmp_total, all-put_row, IsPermutation, IsPermutation-refl, IsPermutation-trans, IsPermutation-cons, rowid, put_row, without_rowid, has_rowid, is_int, is_taken, all_has, has_filtered, Key, alike, HasRowids, same_key, is_blob, is_at, count, with_one, without_one}
 use Rattle.std.proofs.lemmas.Cmp.{tied_back}
 use Rattle.std.specs.List.{IsDistinct}
 use Rattle.std.specs.FinSet as set
@@ -15,11 +15,8 @@ pub own_bytes : (b : List ℕ) → is_blob b (Blob b) ≡ true
 own_bytes b = (bytes_eq-Decides b b).1 refl
 
 pub blob_is : (v : Value) (b : List ℕ) → is_blob b v ≡ true → v ≡ Blob b
-blob_is Null b h = absurd (cc)
-blob_is (Int n) b h = absurd (cc)
-blob_is (Real x) b h = absurd (cc)
-blob_is (Text t) b h = absurd (cc)
 blob_is (Blob x) b h = ap Blob ((bytes_eq-Decides x b).0 h)
+blob_is _ b h = absurd (cc)
 
 -- a row with the key has the other keys that are the same
 pub at_same : (key k : Key) (row : Row) → is_at key row ≡ true → is_at k row ≡ same_key key k

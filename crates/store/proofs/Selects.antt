@@ -1,5 +1,5 @@
 -- What a query by key shows.
-use Rattle.store.proofs.Names.{◌≡◌, ◌<◌, ◌^◌, ℕ, List, [], ◌∷◌, ◌++◌, map, filter, Bool, true, false, cond, ◌&&◌, Some, refl, sym, ap, subst, ◌∙◌, flat_map, ℤ, and-true, IsPermutation, list_all, IsPermutation-map, is_eq-slice_cmp, is_eq, Value, Null, Int, Real, Text, Blob, Binary, Row, Compare, Eq, Term, eval_all, Trees, overlay, has_key, has_count, has_start, Key, is_blob, is_at, has_n, begins_at, shown_span}
+use Rattle.store.proofs.Names.{◌≡◌, ◌<◌, ◌^◌, ℕ, List, [], ◌∷◌, ◌++◌, map, filter, Bool, true, false, cond, ◌&&◌, Some, refl, sym, ap, subst, ◌∙◌, flat_map, ℤ, and-true, IsPermutation, list_all, IsPermutation-map, is_eq-slice_cmp, is_eq, Value, Null, Int, Blob, Binary, Row, Compare, Eq, Term, eval_all, Trees, overlay, has_key, has_count, has_start, Key, is_blob, is_at, has_n, begins_at, shown_span}
 use Rattle.std.proofs.lemmas.Bool.{lt-leb}
 use Rattle.sqlite_value.specs.Order.{column, value_cmp}
 use Rattle.sqlite_value.proofs.OrderLemmas.{value_cmp-Blob, value_cmp-apart}
@@ -17,19 +17,14 @@ shown_bool false = refl
 pub equals_blob : (v : Value) (b : List ℕ) → is_true (binary (Compare Eq Binary) v (Blob b)) ≡ is_blob b v
 unfolding binary
 equals_blob Null b = refl
-equals_blob (Int n) b = shown_bool (is_eq (value_cmp (Int n) (Blob b))) ∙ ap is_eq (value_cmp-apart (Int n) (Blob b) (λ e. cc))
-equals_blob (Real x) b = shown_bool (is_eq (value_cmp (Real x) (Blob b))) ∙ ap is_eq (value_cmp-apart (Real x) (Blob b) (λ e. cc))
-equals_blob (Text t) b = shown_bool (is_eq (value_cmp (Text t) (Blob b))) ∙ ap is_eq (value_cmp-apart (Text t) (Blob b) (λ e. cc))
 equals_blob (Blob x) b = shown_bool (is_eq (value_cmp (Blob x) (Blob b))) ∙ ap is_eq (value_cmp-Blob x b) ∙ is_eq-slice_cmp x b
+equals_blob v b = shown_bool (is_eq (value_cmp v (Blob b))) ∙ ap is_eq (value_cmp-apart v (Blob b) (λ e. cc))
 
 -- and one with an integer is that of values
 equals_int : (v : Value) (n : ℤ) → is_true (binary (Compare Eq Binary) v (Int n)) ≡ is_eq (value_cmp v (Int n))
 unfolding binary
 equals_int Null n = sym (ap is_eq (value_cmp-apart Null (Int n) (λ e. cc)))
-equals_int (Int m) n = shown_bool (is_eq (value_cmp (Int m) (Int n)))
-equals_int (Real x) n = shown_bool (is_eq (value_cmp (Real x) (Int n)))
-equals_int (Text t) n = shown_bool (is_eq (value_cmp (Text t) (Int n)))
-equals_int (Blob x) n = shown_bool (is_eq (value_cmp (Blob x) (Int n)))
+equals_int v n = shown_bool (is_eq (value_cmp v (Int n)))
 
 -- the parameters of a statement by key
 abbrev pub key_params : Key → Row → Row

@@ -8,53 +8,32 @@ use Rattle.store.specs.declared.fault.StoreFault.TheVariants.{NoSuchRow, CountFu
 abbrev pub IsOpenFault : Option Names → StoreFault → Type 0
 IsOpenFault wanted (NoSuchRow at) = ⊥
 IsOpenFault wanted (CountFull at) = ⊥
-IsOpenFault wanted (Database e) = Unit {0}
-IsOpenFault wanted Memory = Unit {0}
-IsOpenFault wanted Damaged = Unit {0}
-IsOpenFault wanted (Layout n) = Unit {0}
 IsOpenFault wanted Broken = ⊥
 IsOpenFault wanted Follows = IsSome wanted
+IsOpenFault wanted _ = Unit {0}
 
 -- A transaction is refused at a change, or fails, or the store has failed before.
 abbrev pub IsApplyFault : StoreFault → Type 0
-IsApplyFault (NoSuchRow at) = Unit {0}
-IsApplyFault (CountFull at) = Unit {0}
-IsApplyFault (Database e) = Unit {0}
-IsApplyFault Memory = Unit {0}
 IsApplyFault Damaged = ⊥
 IsApplyFault (Layout n) = ⊥
-IsApplyFault Broken = Unit {0}
 IsApplyFault Follows = ⊥
+IsApplyFault _ = Unit {0}
 
 -- Adopting fails, or the store has failed before.
 abbrev pub IsAdoptFault : StoreFault → Type 0
-IsAdoptFault (NoSuchRow at) = ⊥
-IsAdoptFault (CountFull at) = ⊥
 IsAdoptFault (Database e) = Unit {0}
 IsAdoptFault Memory = Unit {0}
-IsAdoptFault Damaged = ⊥
-IsAdoptFault (Layout n) = ⊥
 IsAdoptFault Broken = Unit {0}
-IsAdoptFault Follows = ⊥
+IsAdoptFault _ = ⊥
 
 -- Reading fails, or the store has failed before.
 abbrev pub IsReadFault : StoreFault → Type 0
-IsReadFault (NoSuchRow at) = ⊥
-IsReadFault (CountFull at) = ⊥
 IsReadFault (Database e) = Unit {0}
-IsReadFault Memory = ⊥
-IsReadFault Damaged = ⊥
-IsReadFault (Layout n) = ⊥
 IsReadFault Broken = Unit {0}
-IsReadFault Follows = ⊥
+IsReadFault _ = ⊥
 
 -- A statement failed, or an allocation was refused.
 abbrev pub IsFailure : StoreFault → Type 0
-IsFailure (NoSuchRow at) = ⊥
-IsFailure (CountFull at) = ⊥
 IsFailure (Database e) = Unit {0}
 IsFailure Memory = Unit {0}
-IsFailure Damaged = ⊥
-IsFailure (Layout n) = ⊥
-IsFailure Broken = ⊥
-IsFailure Follows = ⊥
+IsFailure _ = ⊥

@@ -4,7 +4,7 @@ use Rattle.std.specs.Ordering.{is_eq}
 use Rattle.std.specs.List.{AllByRecursion, IsDistinct}
 use Rattle.std.specs.FinSet as set
 use Rattle.sqlite_value.specs.declared.value.Value.{Value}
-use Rattle.sqlite_value.specs.declared.value.Value.TheVariants.{Null, Int, Real, Text, Blob}
+use Rattle.sqlite_value.specs.declared.value.Value.TheVariants.{Int, Text, Blob}
 use Rattle.sqlite_value.specs.Order.{Row, column, value_cmp}
 use Rattle.sqlite_trees.specs.Tree.{rowid}
 use Rattle.sqlite_trees.specs.View.{is_int}
@@ -43,29 +43,20 @@ pub record HasRowids (rows : List Row) : Type 0 where
   pub keyed : AllByRecursion (λ r. IsTrue (is_int (rowid r))) rows
 
 abbrev pub is_blob : List ℕ → Value → Bool
-is_blob b Null = false
-is_blob b (Int n) = false
-is_blob b (Real x) = false
-is_blob b (Text t) = false
 is_blob b (Blob x) = bytes_eq x b
+is_blob b _ = false
 
 abbrev pub natural : ℤ → ℕ
 natural (pos n) = n
 natural _ = 0
 
 abbrev pub number_in : Value → ℕ
-number_in Null = 0
 number_in (Int n) = natural n
-number_in (Real x) = 0
-number_in (Text t) = 0
-number_in (Blob b) = 0
+number_in _ = 0
 
 abbrev pub blob_in : Value → List ℕ
-blob_in Null = []
-blob_in (Int n) = []
-blob_in (Real x) = []
-blob_in (Text t) = []
 blob_in (Blob b) = b
+blob_in _ = []
 
 -- ---- held
 
@@ -179,11 +170,8 @@ pub record AreNames (rows : List Row) (names : Names) : Type 0 where
 -- ---- meta
 
 abbrev pub is_text : List ℕ → Value → Bool
-is_text t Null = false
-is_text t (Int n) = false
-is_text t (Real x) = false
 is_text t (Text x) = bytes_eq x t
-is_text t (Blob b) = false
+is_text t _ = false
 
 -- a row of meta: a rowid, a text and an integer
 abbrev pub IsMetaRow : Row → Type 0

@@ -7,17 +7,14 @@ use Rattle.columns.specs.declared.sign.Sign.TheVariants as type_sign
 use Rattle.columns.specs.declared.value.integer.Integer.{Integer}
 use Rattle.columns.specs.declared.value.integer.Integer.TheVariants.{Signed, Unsigned}
 use Rattle.columns.specs.declared.value.integer.IntegerWidth.{IntegerWidth}
-use Rattle.columns.specs.declared.value.integer.IntegerWidth.TheVariants.{One, Two, Three, Four, Eight}
+use Rattle.columns.specs.declared.value.integer.IntegerWidth.TheVariants.{One}
 use Rattle.std.specs.Fmt.{signed_decimal}
 use Rattle.columns.proofs.FieldDigits.{decimal_is, padded_is}
 use Rattle.columns.proofs.field_laws.integer_text_reads_back.Goals as goal
 
 half_small : (width : IntegerWidth) → half width ≤ 2 ^ 63
 half_small One = omega arith
-half_small Two = omega arith
-half_small Three = omega arith
-half_small Four = omega arith
-half_small Eight = omega arith
+half_small _ = omega arith
 
 signed_is : (top : ℕ) (z : ℤ) → top ≤ 2 ^ 63 → IsWithin top z → IsWithSign z (signed_decimal z)
 signed_is top (pos n) small within = decimal_is n (omega (arith, small, within))
