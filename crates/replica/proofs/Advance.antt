@@ -4,58 +4,57 @@ use Rattle.std.proofs.Common.{IfSome, IfNone}
 use Rattle.wire.specs.declared.fault.WireFault.TheVariants as wire
 use Rattle.wire.specs.Payload.{IsOutOfSequence, IsTooLarge}
 use Rattle.replica.specs.PayloadStep.{reason_of}
-use Rattle.replica.specs.Standing.{Stands}
+use Rattle.replica.specs.Standing.{Parts, Position, parts_of, reads_on, sends_on, Stands}
 use Rattle.replica.specs.Over.{MeetsOver}
 use Rattle.replica.proofs.Extend.{extended, left-append}
 use Rattle.replica.proofs.Positions.{stands-append, going}
 
-module _ (settings : Settings) (a : ReaderState) (gatherer : Gatherer) (phase : Phase) (at applied : ℕ) (names : Names) (was is : Bool) (old now : Content) (b all more : List ℕ)
-    (g : GoesOn settings a gatherer phase at applied names was is old now b all) where
+module _ (parts : Parts) (names : Names) (pos : Position) (is : Bool) (now : Content) (more : List ℕ) (g : GoesOn parts names pos is now) where
   -- a header is wrong
-  ended-wire : (fault : WireFault) → IsWrong g.reading.id settings.limit (g.reading.rest ++ more) fault → HasEnded settings names was is old now (b ++ more) all (record { reason = Wire fault; at = at; applied = applied })
+  ended-wire : (fault : WireFault) → IsWrong g.reading.id parts.settings.limit (g.reading.rest ++ more) fault → HasEnded parts.settings names (reads_on pos more) is now (record { reason = Wire fault; at = parts.at; applied = parts.applied })
   ended-wire fault w = record {
-    conn = record { reading = extended settings.limit names b more g.reading; has_applied = g.has_applied; why = inl (g.at_is, inl w); kept = g.kept };
+    conn = record { reading = extended parts.settings.limit names pos.read more g.reading; has_applied = g.has_applied; why = inl (g.at_is, inl w); kept = g.kept };
     more = λ e. cc;
-    sent = record { payloads = g.reading.payloads; taken = record { reading = extended settings.limit names b more g.reading; payloads_are = refl; at_is = inl g.at_is }; sent = g.sent };
+    sent = record { payloads = g.reading.payloads; taken = record { reading = extended parts.settings.limit names pos.read more g.reading; payloads_are = refl; at_is = inl g.at_is }; sent = g.sent };
     store = g.store;
   }
 
   -- memory ran out
-  ended-memory : HasEnded settings names was is old now (b ++ more) all (record { reason = Memory; at = at; applied = applied })
+  ended-memory : HasEnded parts.settings names (reads_on pos more) is now (record { reason = Memory; at = parts.at; applied = parts.applied })
   ended-memory = record {
-    conn = record { reading = extended settings.limit names b more g.reading; has_applied = g.has_applied; why = g.at_is; kept = g.kept };
+    conn = record { reading = extended parts.settings.limit names pos.read more g.reading; has_applied = g.has_applied; why = g.at_is; kept = g.kept };
     more = λ e. cc;
-    sent = record { payloads = g.reading.payloads; taken = record { reading = extended settings.limit names b more g.reading; payloads_are = refl; at_is = inl g.at_is }; sent = g.sent };
+    sent = record { payloads = g.reading.payloads; taken = record { reading = extended parts.settings.limit names pos.read more g.reading; payloads_are = refl; at_is = inl g.at_is }; sent = g.sent };
     store = λ h. g.store ∙ h;
   }
 
-  rest-now : g.reading.rest ++ more ≡ a.held ++ more
+  rest-now : g.reading.rest ++ more ≡ parts.assembly.held ++ more
   rest-now = ap (λ (l : List ℕ). l ++ more) g.held
 
   reported_as : (fault : WireFault)
-      → ((want got : ℕ) → fault ≡ wire.Sequence want got → IsOutOfSequence a.due a.limit (a.held ++ more) want got) → (fault ≡ wire.TooLarge → IsTooLarge a.due a.limit (a.held ++ more)) → (fault ≡ wire.Ended → a.ended ≡ true)
-      → HasEnded settings names was is old now (b ++ more) all (record { reason = reason_of fault; at = at; applied = applied })
+      → ((want got : ℕ) → fault ≡ wire.Sequence want got → IsOutOfSequence parts.assembly.due parts.assembly.limit (parts.assembly.held ++ more) want got) → (fault ≡ wire.TooLarge → IsTooLarge parts.assembly.due parts.assembly.limit (parts.assembly.held ++ more)) → (fault ≡ wire.Ended → parts.assembly.ended ≡ true)
+      → HasEnded parts.settings names (reads_on pos more) is now (record { reason = reason_of fault; at = parts.at; applied = parts.applied })
   reported_as (wire.Sequence want got) sequence large ended =
       ended-wire (wire.Sequence want got)
-      (subst (λ l. IsOutOfSequence g.reading.id settings.limit l want got) (sym rest-now)
-      (subst (λ n. IsOutOfSequence g.reading.id n (a.held ++ more) want got) g.limit (subst (λ n. IsOutOfSequence n a.limit (a.held ++ more) want got) g.id (sequence want got refl))))
+      (subst (λ l. IsOutOfSequence g.reading.id parts.settings.limit l want got) (sym rest-now)
+      (subst (λ n. IsOutOfSequence g.reading.id n (parts.assembly.held ++ more) want got) g.limit (subst (λ n. IsOutOfSequence n parts.assembly.limit (parts.assembly.held ++ more) want got) g.id (sequence want got refl))))
   reported_as wire.TooLarge sequence large ended =
       ended-wire wire.TooLarge
-      (subst (λ l. IsTooLarge g.reading.id settings.limit l) (sym rest-now)
-      (subst (λ n. IsTooLarge g.reading.id n (a.held ++ more)) g.limit (subst (λ n. IsTooLarge n a.limit (a.held ++ more)) g.id (large refl))))
+      (subst (λ l. IsTooLarge g.reading.id parts.settings.limit l) (sym rest-now)
+      (subst (λ n. IsTooLarge g.reading.id n (parts.assembly.held ++ more)) g.limit (subst (λ n. IsTooLarge n parts.assembly.limit (parts.assembly.held ++ more)) g.id (large refl))))
   reported_as wire.Memory sequence large ended = ended-memory
   reported_as wire.Ended sequence large ended = absurd (true≢false (sym (ended refl) ∙ g.reads))
 
   -- no payload is whole yet
-  goes_on-unfinished : IsUnfinished a.due a.limit (a.held ++ more) → GoesOn settings (record a { held = a.held ++ more }) gatherer phase at applied names was is old now (b ++ more) all
+  goes_on-unfinished : IsUnfinished parts.assembly.due parts.assembly.limit (parts.assembly.held ++ more) → GoesOn (record parts { assembly = record parts.assembly { held = parts.assembly.held ++ more } }) names (reads_on pos more) is now
   goes_on-unfinished u = record {
-    reading = extended settings.limit names b more g.reading;
+    reading = extended parts.settings.limit names pos.read more g.reading;
     held = rest-now;
     at_is = g.at_is;
     limit = g.limit;
     id = g.id;
     reads = g.reads;
-    unfinished = subst (λ n. IsUnfinished g.reading.id n (a.held ++ more)) g.limit (subst (λ n. IsUnfinished n a.limit (a.held ++ more)) g.id u);
+    unfinished = subst (λ n. IsUnfinished g.reading.id n (parts.assembly.held ++ more)) g.limit (subst (λ n. IsUnfinished n parts.assembly.limit (parts.assembly.held ++ more)) g.id u);
     awaits = g.awaits;
     gathers = g.gathers;
     has_applied = g.has_applied;
@@ -65,11 +64,11 @@ module _ (settings : Settings) (a : ReaderState) (gatherer : Gatherer) (phase : 
   }
 
   -- a payload is whole
-  has_payload : (p : Payload) (next : ℕ) → IsWholePayload a.due a.limit (a.held ++ more) p next → HasPayload settings (record a { due = next; held = [] }) gatherer phase at applied names was is old now (b ++ more) all p
+  has_payload : (p : Payload) (next : ℕ) → IsWholePayload parts.assembly.due parts.assembly.limit (parts.assembly.held ++ more) p next → HasPayload (record parts { assembly = record parts.assembly { due = next; held = [] } }) names (reads_on pos more) is now p
   has_payload p next whole = record {
-    reading = extended settings.limit names b more g.reading;
-    whole = subst (λ l. IsWholePayload g.reading.id settings.limit l p next) (sym rest-now)
-        (subst (λ n. IsWholePayload g.reading.id n (a.held ++ more) p next) g.limit (subst (λ n. IsWholePayload n a.limit (a.held ++ more) p next) g.id whole));
+    reading = extended parts.settings.limit names pos.read more g.reading;
+    whole = subst (λ l. IsWholePayload g.reading.id parts.settings.limit l p next) (sym rest-now)
+        (subst (λ n. IsWholePayload g.reading.id n (parts.assembly.held ++ more) p next) g.limit (subst (λ n. IsWholePayload n parts.assembly.limit (parts.assembly.held ++ more) p next) g.id whole));
     at_is = g.at_is;
     limit = g.limit;
     held = refl;
@@ -93,16 +92,16 @@ left_here session limit names old b now left none l = elim l [
       )
 ]
 
-module _ {S : Type 0} (g : Ghosts S) (store : Store S g) (schema : Schema) (was : Bool) (old : Content) (b o : List ℕ) where
+module _ {S : Type 0} (g : Ghosts S) (store : Store S g) (schema : Schema) (pos : Position) where
   leaves_now : (session : Session) (limit : ℕ) (now : Content) → session.ended ≡ None
-      → LeavesOnly g schema store (IsLeftOfOne limit store.following old b now (end_of session)) → LeavesOnly g schema store (λ left. left ≡ now)
+      → LeavesOnly g schema store (IsLeftOfOne limit store.following pos.old pos.read now (end_of session)) → LeavesOnly g schema store (λ left. left ≡ now)
   leaves_now session limit now none l = record {
     each = λ trees may.
         let e = l.each trees may in
-        (e.0, e.1, left_here session limit store.following old b now e.0 none e.2);
+        (e.0, e.1, left_here session limit store.following pos.old pos.read now e.0 none e.2);
   }
 
-  leaves_so : (limit : ℕ) (now : Content) (end : Ended) (bytes : List ℕ) → LeavesOnly g schema store (λ left. left ≡ now) → LeavesOnly g schema store (IsLeftOfOne limit store.following old bytes now end)
+  leaves_so : (limit : ℕ) (now : Content) (end : Ended) (bytes : List ℕ) → LeavesOnly g schema store (λ left. left ≡ now) → LeavesOnly g schema store (IsLeftOfOne limit store.following pos.old bytes now end)
   leaves_so limit now end bytes l = record {
     each = λ trees may.
         let e = l.each trees may in
@@ -110,17 +109,17 @@ module _ {S : Type 0} (g : Ghosts S) (store : Store S g) (schema : Schema) (was 
   }
 
   -- after the end the session reads nothing
-  pub over-append : (session : Session) (more : List ℕ) → is_some session.ended ≡ true → StandsOver g session store schema was old b o → StandsOver g session store schema was old (b ++ more) o
+  pub over-append : (session : Session) (more : List ℕ) → is_some session.ended ≡ true → StandsOver g session store schema pos → StandsOver g session store schema (reads_on pos more)
   over-append session more ended s = record {
     is = s.is;
     now = s.now;
     holds = s.holds;
-    stands = stands-append session store.following was s.is old s.now b o more ended s.stands;
+    stands = stands-append session store.following pos s.is s.now more ended s.stands;
     schema_is = s.schema_is;
     leaves = λ w. record {
       each = λ trees may.
           let e = (s.leaves w).each trees may in
-          (e.0, e.1, left-append session.config.limit store.following old b more s.now (end_of session) e.0 e.2);
+          (e.0, e.1, left-append session.config.limit store.following pos.old pos.read more s.now (end_of session) e.0 e.2);
     };
   }
 
@@ -129,18 +128,18 @@ module _ {S : Type 0} (g : Ghosts S) (store : Store S g) (schema : Schema) (was 
       → after.config ≡ session.config → after.out ≡ session.out → after.ended ≡ Some (record { reason = reason_of fault; at = session.at; applied = session.applied })
       → ((want got : ℕ) → fault ≡ wire.Sequence want got → IsOutOfSequence session.assembler.due session.assembler.limit (session.assembler.held ++ more) want got)
       → (fault ≡ wire.TooLarge → IsTooLarge session.assembler.due session.assembler.limit (session.assembler.held ++ more)) → (fault ≡ wire.Ended → session.assembler.ended ≡ true)
-      → StandsOver g session store schema was old b o → StandsOver g after store schema was old (b ++ more) o
+      → StandsOver g session store schema pos → StandsOver g after store schema (reads_on pos more)
   unfolding Stands
   over-fault session after more fault none config out ended_so sequence large ended s =
-      let goes = going session store.following was s.is old s.now b o none s.stands in
-      let has = reported_as session.config session.assembler session.gatherer session.phase session.at session.applied store.following was s.is old s.now b (o ++ session.out.items) more goes fault sequence large ended in
+      let goes = going session store.following pos s.is s.now none s.stands in
+      let has = reported_as (parts_of session) store.following (sends_on pos session.out.items) s.is s.now more goes fault sequence large ended in
       record {
         is = s.is;
         now = s.now;
         holds = s.holds;
         stands = rw (ended_so, config, out) has;
         schema_is = s.schema_is;
-        leaves = λ w. leaves_so after.config.limit s.now (end_of after) (b ++ more) (leaves_now session session.config.limit s.now none (s.leaves w));
+        leaves = λ w. leaves_so after.config.limit s.now (end_of after) (pos.read ++ more) (leaves_now session session.config.limit s.now none (s.leaves w));
       }
 
   -- no payload was whole
@@ -148,18 +147,18 @@ module _ {S : Type 0} (g : Ghosts S) (store : Store S g) (schema : Schema) (was 
       → after.config ≡ session.config → after.assembler ≡ record session.assembler { held = session.assembler.held ++ more } → after.gatherer ≡ session.gatherer → after.phase ≡ session.phase
       → after.at ≡ session.at → after.applied ≡ session.applied → after.out ≡ session.out
       → IsUnfinished session.assembler.due session.assembler.limit (session.assembler.held ++ more)
-      → StandsOver g session store schema was old b o → StandsOver g after store schema was old (b ++ more) o
+      → StandsOver g session store schema pos → StandsOver g after store schema (reads_on pos more)
   unfolding Stands
   over-unfinished session after more none still config assembler gatherer phase at applied out u s =
-      let goes = going session store.following was s.is old s.now b o none s.stands in
-      let on = goes_on-unfinished session.config session.assembler session.gatherer session.phase session.at session.applied store.following was s.is old s.now b (o ++ session.out.items) more goes u in
+      let goes = going session store.following pos s.is s.now none s.stands in
+      let on = goes_on-unfinished (parts_of session) store.following (sends_on pos session.out.items) s.is s.now more goes u in
       record {
         is = s.is;
         now = s.now;
         holds = s.holds;
         stands = rw (still, config, assembler, gatherer, phase, at, applied, out) on;
         schema_is = s.schema_is;
-        leaves = λ w. leaves_so after.config.limit s.now (end_of after) (b ++ more) (leaves_now session session.config.limit s.now none (s.leaves w));
+        leaves = λ w. leaves_so after.config.limit s.now (end_of after) (pos.read ++ more) (leaves_now session session.config.limit s.now none (s.leaves w));
       }
 
   -- a payload has come
@@ -167,10 +166,10 @@ module _ {S : Type 0} (g : Ghosts S) (store : Store S g) (schema : Schema) (was 
       → after.config ≡ session.config → after.assembler ≡ record session.assembler { due = next; held = [] } → after.gatherer ≡ session.gatherer → after.phase ≡ session.phase
       → after.at ≡ session.at → after.applied ≡ session.applied → after.out ≡ session.out
       → IsWholePayload session.assembler.due session.assembler.limit (session.assembler.held ++ more) p next
-      → StandsOver g session store schema was old b o → MeetsOver g after store schema was old (b ++ more) o p
+      → StandsOver g session store schema pos → MeetsOver g after store schema (reads_on pos more) p
   over-payload session after more p next none config assembler gatherer phase at applied out whole s =
-      let goes = going session store.following was s.is old s.now b o none s.stands in
-      let has = has_payload session.config session.assembler session.gatherer session.phase session.at session.applied store.following was s.is old s.now b (o ++ session.out.items) more goes p next whole in
+      let goes = going session store.following pos s.is s.now none s.stands in
+      let has = has_payload (parts_of session) store.following (sends_on pos session.out.items) s.is s.now more goes p next whole in
       record {
         is = s.is;
         now = s.now;

@@ -3,12 +3,12 @@ use Rattle.replica.proofs.Names.{◌≡◌, ℕ, ◌+◌, ◌≤◌, Bool, List,
 use Rattle.std.proofs.Common.{drop}
 use Rattle.std.proofs.lemmas.List.{length-take-le, length-drop}
 use Rattle.sqlite.specs.Held.{state}
+use Rattle.replica.specs.Standing.{Position, reads_on}
 
 module _ {S : Type 0} (g : Ghosts S) where
   -- over a clean disk, bytes lead from one session and store to another
   abbrev pub Leads : Session → Store S g → Session → Store S g → List ℕ → Type 0
-  Leads before old after new bytes = HasCleanDisk (state g new.conn) → (schema : Schema) (was : Bool) (content : Content) (b o : List ℕ)
-      → StandsOver g before old schema was content b o → StandsOver g after new schema was content (b ++ bytes) o
+  Leads before old after new bytes = HasCleanDisk (state g new.conn) → (schema : Schema) (pos : Position) → StandsOver g before old schema pos → StandsOver g after new schema (reads_on pos bytes)
 
   -- bytes were fed up to the rest
   pub record Fed (entry : Session) (entry_store : Store S g) (session : Session) (store : Store S g) (bytes rest : List ℕ) : Type 0 where
@@ -20,13 +20,13 @@ module _ {S : Type 0} (g : Ghosts S) where
   fed_none session store bytes = record {
     front = [];
     bytes_are = refl;
-    leads = λ clean schema was content b o s. subst (λ (l : List ℕ). StandsOver g session store schema was content l o) (sym (append-nil b)) s;
+    leads = λ clean schema pos s. subst (λ (l : List ℕ). StandsOver g session store schema (record pos { read = l })) (sym (append-nil pos.read)) s;
   }
 
   then : (entry : Session) (entry_store : Store S g) (session : Session) (store : Store S g) (after : Session) (new : Store S g) (x y : List ℕ)
       → Leads entry entry_store session store x → (HasCleanDisk (state g new.conn) → HasCleanDisk (state g store.conn)) → Leads session store after new y → Leads entry entry_store after new (x ++ y)
-  then entry entry_store session store after new x y h clean k is_clean schema was content b o s =
-      subst (λ (l : List ℕ). StandsOver g after new schema was content l o) (append_assoc b x y) (k is_clean schema was content (b ++ x) o (h (clean is_clean) schema was content b o s))
+  then entry entry_store session store after new x y h clean k is_clean schema pos s =
+      subst (λ (l : List ℕ). StandsOver g after new schema (record pos { read = l })) (append_assoc pos.read x y) (k is_clean schema (reads_on pos x) (h (clean is_clean) schema pos s))
 
   pub fed_more : (entry : Session) (entry_store : Store S g) (session : Session) (store : Store S g) (after : Session) (new : Store S g) (bytes rest : List ℕ) (used : ℕ)
       → Fed entry entry_store session store bytes rest → (HasCleanDisk (state g new.conn) → HasCleanDisk (state g store.conn)) → Leads session store after new (take used rest) → Fed entry entry_store after new bytes (drop used rest)

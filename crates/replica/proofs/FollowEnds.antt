@@ -6,9 +6,9 @@ use Rattle.std.proofs.Math.Seq.{take-append_seam}
 use Rattle.std.proofs.KnownBytes.{Appends-trans, Appends-kept, Consumes-trans, Consumes-kept, Appends-nil}
 use Rattle.sqlite.specs.Held.{state}
 use Rattle.replica.specs.Conn.{EndsInLast}
-use Rattle.replica.specs.Standing.{Stands}
+use Rattle.replica.specs.Standing.{Position, parts_of, from_start, sends_on, Stands}
 use Rattle.replica.specs.Over.{HasRead}
-use Rattle.replica.specs.Follow.{IsOfStream, MaySendLess, Follows, IsFollowing, HandsOut, piece_length, sends_no_more_after, turns_left, while_going}
+use Rattle.replica.specs.Follow.{Exchange, IsOfStream, MaySendLess, Follows, IsFollowing, HandsOut, piece_length, sends_no_more_after, turns_left, while_going}
 use Rattle.replica.proofs.Positions.{conn_of, sent_of}
 use Rattle.replica.proofs.Runs.{begins, read_all}
 
@@ -113,31 +113,35 @@ module _ {S : Type 0} (g : Ghosts S) where
   }
 
   -- the pending output was handed out
-  pub over-out : (session after : Session) (store : Store S g) (schema : Schema) (was : Bool) (old : Content) (b o out : List ℕ) → HandsOut session after out
-      → StandsOver g session store schema was old b o → StandsOver g after store schema was old b (o ++ out)
-  over-out session after store schema was old b o out h s = record {
+  pub over-out : (session after : Session) (store : Store S g) (schema : Schema) (pos : Position) (out : List ℕ) → HandsOut session after out
+      → StandsOver g session store schema pos → StandsOver g after store schema (sends_on pos out)
+  over-out session after store schema pos out h s = record {
     is = s.is;
     now = s.now;
     holds = s.holds;
-    stands = h.stands store.following was s.is old s.now b o s.stands;
+    stands = h.stands store.following pos s.is s.now s.stands;
     schema_is = s.schema_is;
     leaves = λ w.
-        subst (λ (c : Settings). LeavesOnly g schema store (IsLeftOfOne c.limit store.following old b s.now (end_of after))) (sym h.config)
-        (subst (λ (e : Ended). LeavesOnly g schema store (IsLeftOfOne session.config.limit store.following old b s.now e)) (sym h.end) (s.leaves w));
+        subst (λ (c : Settings). LeavesOnly g schema store (IsLeftOfOne c.limit store.following pos.old pos.read s.now (end_of after))) (sym h.config)
+        (subst (λ (e : Ended). LeavesOnly g schema store (IsLeftOfOne session.config.limit store.following pos.old pos.read s.now e)) (sym h.end) (s.leaves w));
   }
 
-  module _ (session : Session) (before store : Store S g) (was : Bool) (old : Content) (left0 left written0 written : Option (List ℕ)) (names : store.following ≡ before.following) (f : IsFollowing g session before store was old left0 left written0 written) where
+  module _ (session : Session) (before store : Store S g) (was : Bool) (old : Content) (stream : Exchange) (names : store.following ≡ before.following) (f : IsFollowing g session before store was old stream) where
     abbrev pub end : Ended
     end = end_of session
 
+    -- where the session stands
+    abbrev here : Position
+    here = record { was = was; old = old; read = f.read; sent = f.sent }
+
     has_read : HasRead g session.config.limit before store was old f.read end
-    has_read = read_all g session before store session.config.limit was old f.read f.sent end refl names refl f.stands
+    has_read = read_all g session before store session.config.limit here end refl names refl f.stands
 
     is_due : SentFor session.config before.following old.executed f.read end.at (f.sent ++ session.out.items)
-    is_due = subst (λ n. SentFor session.config n old.executed f.read end.at (f.sent ++ session.out.items)) names (sent_of session store.following was f.stands.is old f.stands.now f.read f.sent f.stands.stands)
+    is_due = subst (λ n. SentFor session.config n old.executed f.read end.at (f.sent ++ session.out.items)) names (sent_of session store.following here f.stands.is f.stands.now f.stands.stands)
 
     -- nothing can be read, since memory ran out
-    pub follows-memory : end.reason ≡ EndOfInput → Follows g session.config before store was old left0 left written0 written (reported_as Memory end)
+    pub follows-memory : end.reason ≡ EndOfInput → Follows g session.config before store was old stream (reported_as Memory end)
     unfolding ended_with has_read
     follows-memory e =
         let full : IsInFull end.reason = subst (λ (v : Reason). IsInFull v) (sym e) tt in
@@ -158,7 +162,7 @@ module _ {S : Type 0} (g : Ghosts S) where
         }
 
     -- nothing is read, since the observer waits for nothing
-    pub follows-until : end.reason ≡ EndOfInput → Follows g session.config before store was old left0 left written0 written (reported_as Until end)
+    pub follows-until : end.reason ≡ EndOfInput → Follows g session.config before store was old stream (reported_as Until end)
     unfolding ended_with has_read
     follows-until e =
         let full : IsInFull end.reason = subst (λ (v : Reason). IsInFull v) (sym e) tt in
@@ -179,7 +183,7 @@ module _ {S : Type 0} (g : Ghosts S) where
         }
 
     -- memory or the database ended it: nothing more is sent
-    pub follows-sends_no_more : sends_no_more_after end.reason ≡ true → IsNoStreamFailure end.reason → Follows g session.config before store was old left0 left written0 written end
+    pub follows-sends_no_more : sends_no_more_after end.reason ≡ true → IsNoStreamFailure end.reason → Follows g session.config before store was old stream end
     follows-sends_no_more gave n = record {
       read = f.read;
       sent = f.sent;
@@ -195,20 +199,24 @@ module _ {S : Type 0} (g : Ghosts S) where
       all_sent = inl (may_owe end.reason gave);
     }
 
-    module _ (after : Session) (left' written' : Option (List ℕ)) (y z : List ℕ) (keeps : Keeps left left') (appends : Appends written written' y) (hands : HandsOut session after (y ++ z)) where
-      writes' : Appends written0 written' (f.sent ++ y)
-      writes' = Appends-trans written0 written written' f.sent y f.writes appends
+    module _ (after : Session) (left' written' : Option (List ℕ)) (y z : List ℕ) (keeps : Keeps stream.left' left') (appends : Appends stream.written' written' y) (hands : HandsOut session after (y ++ z)) where
+      -- the stream afterwards
+      abbrev stream' : Exchange
+      stream' = record stream { left' = left'; written' = written' }
 
-      reads' : Consumes left0 left' f.read
-      reads' = Consumes-kept left0 left left' f.read f.reads keeps
+      writes' : Appends stream.written written' (f.sent ++ y)
+      writes' = Appends-trans stream.written stream.written' written' f.sent y f.writes appends
+
+      reads' : Consumes stream.left left' f.read
+      reads' = Consumes-kept stream.left stream.left' left' f.read f.reads keeps
 
       is_due' : SentFor session.config before.following old.executed f.read end.at ((f.sent ++ y) ++ z)
       is_due' =
           subst (λ (l : List ℕ). SentFor session.config before.following old.executed f.read end.at l) (sym (append_assoc f.sent y z))
-          (subst (λ n. SentFor session.config n old.executed f.read end.at (f.sent ++ (y ++ z))) names (hands.sent store.following was f.stands.is old f.stands.now f.read f.sent f.stands.stands))
+          (subst (λ n. SentFor session.config n old.executed f.read end.at (f.sent ++ (y ++ z))) names (hands.sent store.following here f.stands.is f.stands.now f.stands.stands))
 
       -- a write failed
-      pub follows-write_failed : sends_no_more_after end.reason ≡ false → IsNoStreamFailure end.reason → Follows g session.config before store was old left0 left' written0 written' (reported_as WriteFailed end)
+      pub follows-write_failed : sends_no_more_after end.reason ≡ false → IsNoStreamFailure end.reason → Follows g session.config before store was old stream' (reported_as WriteFailed end)
       unfolding ended_with has_read
       follows-write_failed gave n =
           let full = is_in_full end.reason gave n in
@@ -233,7 +241,7 @@ module _ {S : Type 0} (g : Ghosts S) where
         sent' = subst (λ (l : List ℕ). SentFor session.config before.following old.executed f.read end.at ((f.sent ++ y) ++ l)) all is_due'
 
         -- everything has been sent, and the session has ended or everything has been read
-        pub follows-ended : IsNoStreamFailure end.reason → (end.reason ≡ EndOfInput → IsAtEnd left') → Follows g session.config before store was old left0 left' written0 written' end
+        pub follows-ended : IsNoStreamFailure end.reason → (end.reason ≡ EndOfInput → IsAtEnd left') → Follows g session.config before store was old stream' end
         follows-ended n read = record {
           read = f.read;
           sent = f.sent ++ y;
@@ -250,7 +258,7 @@ module _ {S : Type 0} (g : Ghosts S) where
         }
 
         -- a read failed
-        pub follows-read_failed : end.reason ≡ EndOfInput → Follows g session.config before store was old left0 left' written0 written' (reported_as ReadFailed end)
+        pub follows-read_failed : end.reason ≡ EndOfInput → Follows g session.config before store was old stream' (reported_as ReadFailed end)
         unfolding ended_with has_read
         follows-read_failed e =
             let full : IsInFull end.reason = subst (λ (v : Reason). IsInFull v) (sym e) tt in
@@ -272,31 +280,31 @@ module _ {S : Type 0} (g : Ghosts S) where
             }
 
         -- everything has been sent
-        pub following-sent : IsFollowing g after before store was old left0 left' written0 written'
+        pub following-sent : IsFollowing g after before store was old stream'
         following-sent = record {
           read = f.read;
           sent = f.sent ++ (y ++ z);
           reads = reads';
-          writes = subst (λ (l : List ℕ). Appends written0 written' (f.sent ++ l)) (sym (ap (λ (l : List ℕ). y ++ l) all ∙ append-nil y)) writes';
-          stands = over-out session after store (database g before).now.schema was old f.read f.sent (y ++ z) hands f.stands;
+          writes = subst (λ (l : List ℕ). Appends stream.written written' (f.sent ++ l)) (sym (ap (λ (l : List ℕ). y ++ l) all ∙ append-nil y)) writes';
+          stands = over-out session after store (database g before).now.schema here (y ++ z) hands f.stands;
           last = subst (λ (c : Settings). EndsInLast c.limit piece_length before.following was old [] f.read) (sym hands.config) f.last;
         }
 
   -- a session that goes on has read bytes that do not end the connection
-  pub unended : (session : Session) (before store : Store S g) (schema : Schema) (was : Bool) (old : Content) (b o : List ℕ) → store.following ≡ before.following → session.ended ≡ None
-      → (s : StandsOver g session store schema was old b o) → Conn session.config.limit before.following was old b s.now (reported_as EndOfInput (end_of session))
-  unended session before store schema was old b o names going s =
-      let conn : Conn session.config.limit before.following was old b s.now (end_of session) =
-      subst (λ n. Conn session.config.limit n was old b s.now (end_of session)) names (conn_of session store.following was s.is old s.now b o s.stands) in
+  pub unended : (session : Session) (before store : Store S g) (schema : Schema) (pos : Position) → store.following ≡ before.following → session.ended ≡ None
+      → (s : StandsOver g session store schema pos) → Conn session.config.limit before.following pos.was pos.old pos.read s.now (reported_as EndOfInput (end_of session))
+  unended session before store schema pos names going s =
+      let conn : Conn session.config.limit before.following pos.was pos.old pos.read s.now (end_of session) =
+      subst (λ n. Conn session.config.limit n pos.was pos.old pos.read s.now (end_of session)) names (conn_of session store.following pos s.is s.now s.stands) in
       let not_yet : Ended = record { reason = EndOfInput; at = session.at; applied = session.applied } in
       let reported : end_of session ≡ reported_as EndOfInput (end_of session) =
       ap (λ (v : Option Ended). unwrap_or v not_yet) going ∙ sym (ap (λ (v : Option Ended). reported_as EndOfInput (unwrap_or v not_yet)) going) in
-      subst (λ (e : Ended). Conn session.config.limit before.following was old b s.now e) reported conn
+      subst (λ (e : Ended). Conn session.config.limit before.following pos.was pos.old pos.read s.now e) reported conn
 
   -- nothing has been read or sent
   pub following-begins : ((h : Held S) (db : Trees) → IsTrue (state g h).is_open → (state g h).may_leave db → db ≡ (state g h).committed.trees)
-      → (session : Session) (store : Store S g) (was : Bool) (content : Content) (left written : Option (List ℕ)) → session.ended ≡ None → HoldsAs g was content store → Stands session store.following was was content content [] []
-      → IsFollowing g session store store was content left left written written
+      → (session : Session) (store : Store S g) (was : Bool) (content : Content) (left written : Option (List ℕ)) → session.ended ≡ None → HoldsAs g was content store → Stands session store.following (from_start was content) was content
+      → IsFollowing g session store store was content (record { left = left; left' = left; written = written; written' = written })
   following-begins settled session store was content left written going holds stands =
       let s = begins g settled session store was content holds stands in
       record {
@@ -312,20 +320,20 @@ module _ {S : Type 0} (g : Ghosts S) where
           piece = omega arith;
           now = s.now;
           end = end_of session;
-          unended = unended session store store (database g store).now.schema was content [] [] refl going s;
+          unended = unended session store store (database g store).now.schema (from_start was content) refl going s;
         };
       }
 
   -- some bytes were read
-  pub following-read : (session after : Session) (before store new : Store S g) (was : Bool) (old : Content) (left0 left left' written0 written written' : Option (List ℕ)) (x : List ℕ)
-      → (f : IsFollowing g session before store was old left0 left written0 written) → store.following ≡ before.following → session.ended ≡ None → after.config ≡ session.config → length x ≤ piece_length
-      → Consumes left left' x → Keeps written written'
-      → StandsOver g after new (database g before).now.schema was old (f.read ++ x) f.sent → IsFollowing g after before new was old left0 left' written0 written'
-  following-read session after before store new was old left0 left left' written0 written written' x f names going config piece consumes keeps stands = record {
+  pub following-read : (session after : Session) (before store new : Store S g) (was : Bool) (old : Content) (stream : Exchange) (left' written' : Option (List ℕ)) (x : List ℕ)
+      → (f : IsFollowing g session before store was old stream) → store.following ≡ before.following → session.ended ≡ None → after.config ≡ session.config → length x ≤ piece_length
+      → Consumes stream.left' left' x → Keeps stream.written' written'
+      → StandsOver g after new (database g before).now.schema (record { was = was; old = old; read = f.read ++ x; sent = f.sent }) → IsFollowing g after before new was old (record stream { left' = left'; written' = written' })
+  following-read session after before store new was old stream left' written' x f names going config piece consumes keeps stands = record {
     read = f.read ++ x;
     sent = f.sent;
-    reads = Consumes-trans left0 left left' f.read x f.reads consumes;
-    writes = Appends-kept written0 written written' f.sent f.writes keeps;
+    reads = Consumes-trans stream.left stream.left' left' f.read x f.reads consumes;
+    writes = Appends-kept stream.written stream.written' written' f.sent f.writes keeps;
     stands = stands;
     last = subst (λ (c : Settings). EndsInLast c.limit piece_length before.following was old [] (f.read ++ x)) (sym config) (record {
       front = f.read;
@@ -334,16 +342,16 @@ module _ {S : Type 0} (g : Ghosts S) where
       piece = piece;
       now = f.stands.now;
       end = end_of session;
-      unended = unended session before store (database g before).now.schema was old f.read f.sent names going f.stands;
+      unended = unended session before store (database g before).now.schema (record { was = was; old = old; read = f.read; sent = f.sent }) names going f.stands;
     });
   }
 
   -- as above, for settings and an end that are equal
-  pub follows-same : (settings settings' : Settings) (before store : Store S g) (was : Bool) (old : Content) (left left' written written' : Option (List ℕ)) (end end' : Ended) → settings ≡ settings' → end ≡ end'
-      → Follows g settings before store was old left left' written written' end → Follows g settings' before store was old left left' written written' end'
-  follows-same settings settings' before store was old left left' written written' end end' s e f =
-      subst (λ (v : Ended). Follows g settings' before store was old left left' written written' v) e
-      (subst (λ (v : Settings). Follows g v before store was old left left' written written' end) s f)
+  pub follows-same : (settings settings' : Settings) (before store : Store S g) (was : Bool) (old : Content) (stream : Exchange) (end end' : Ended) → settings ≡ settings' → end ≡ end'
+      → Follows g settings before store was old stream end → Follows g settings' before store was old stream end'
+  follows-same settings settings' before store was old stream end end' s e f =
+      subst (λ (v : Ended). Follows g settings' before store was old stream v) e
+      (subst (λ (v : Settings). Follows g v before store was old stream end) s f)
 
 pub some_after : (o : Option (Bor Ended)) (e : Option Ended) → option_map (λ (r : Bor Ended). r.now) o ≡ e → is_some e ≡ is_some o
 some_after None e h = sym (ap (λ (v : Option Ended). is_some v) h)
@@ -353,12 +361,12 @@ pub same_turns : (before after : Session) → after.ended ≡ before.ended → r
 same_turns before after e r = ap (λ (v : Option Ended). while_going v (room_of after + 1)) e ∙ ap (λ (n : ℕ). while_going before.ended (n + 1)) r
 
 -- a session that has ended was not ended by the end of the input
-pub ended_early : (session : Session) (names : Names) (was is : Bool) (old now : Content) (b o : List ℕ) → is_some session.ended ≡ true → Stands session names was is old now b o → (end_of session).reason ≢ EndOfInput
+pub ended_early : (session : Session) (names : Names) (pos : Position) (is : Bool) (now : Content) → is_some session.ended ≡ true → Stands session names pos is now → (end_of session).reason ≢ EndOfInput
 unfolding Stands
-ended_early session names was is old now b o h s = elim session.ended as (λ v. is_some v ≡ true
+ended_early session names pos is now h s = elim session.ended as (λ v. is_some v ≡ true
     → MatchOption v
-    (GoesOn session.config session.assembler session.gatherer session.phase session.at session.applied names was is old now b (o ++ session.out.items))
-    (λ last. HasEnded session.config names was is old now b (o ++ session.out.items) last)
+    (GoesOn (parts_of session) names (sends_on pos session.out.items) is now)
+    (λ last. HasEnded session.config names (sends_on pos session.out.items) is now last)
     → (unwrap_or v (record { reason = EndOfInput; at = session.at; applied = session.applied })).reason ≢ EndOfInput) [
       | None ↦ λ e g. let bad : false ≡ true = e in cc
       | Some last ↦ λ e h. h.more

@@ -3,7 +3,7 @@ use Rattle.replica.proofs.Names.{◌≡◌, ◌⊎◌, ap, ℕ, Bool, List, ◌+
 use Rattle.std.proofs.Common.{◌↔◌}
 use Rattle.wire.specs.declared.fault.WireFault.TheVariants as wire
 use Rattle.replica.specs.Conn.{IsOfBytes}
-use Rattle.replica.specs.Standing.{Stands}
+use Rattle.replica.specs.Standing.{Position, parts_of, sends_on, Stands}
 
 pub begun_of : (limit : ℕ) (names : Names) (was : Bool) (old : Content) (b : List ℕ) (new : Content) (end : Ended) → Conn limit names was old b new end → (count : ℕ) × AppliesFirst limit names old b count end.applied new
 begun_of limit names was old b new end c = (length c.reading.deliveries, record { reading = c.reading; counted = refl; has_applied = c.has_applied })
@@ -28,10 +28,10 @@ end_by limit names was old b new end c h = elim (stops_of limit names was old ne
 ]
 
 -- a session that has ended has not ended by the end of the input
-pub ended_where : (session : Session) (names : Names) (was is : Bool) (old now : Content) (b o : List ℕ) → Stands session names was is old now b o → (session.ended ≡ None) ↔ ((end_of session).reason ≡ EndOfInput)
+pub ended_where : (session : Session) (names : Names) (pos : Position) (is : Bool) (now : Content) → Stands session names pos is now → (session.ended ≡ None) ↔ ((end_of session).reason ≡ EndOfInput)
 unfolding Stands
-ended_where session names was is old now b o s = elim session.ended as (λ v.
-    MatchOption v (GoesOn session.config session.assembler session.gatherer session.phase session.at session.applied names was is old now b (o ++ session.out.items)) (λ end. HasEnded session.config names was is old now b (o ++ session.out.items) end)
+ended_where session names pos is now s = elim session.ended as (λ v.
+    MatchOption v (GoesOn (parts_of session) names (sends_on pos session.out.items) is now) (λ end. HasEnded session.config names (sends_on pos session.out.items) is now end)
     → (v ≡ None) ↔ ((unwrap_or v (record { reason = EndOfInput; at = session.at; applied = session.applied })).reason ≡ EndOfInput)) [
       | None ↦ λ g. (λ e. refl, λ e. refl)
       | Some end ↦ λ h. (λ e. cc, λ e. absurd (h.more e))

@@ -4,7 +4,7 @@ use Rattle.sqlite.specs.Held.{state}
 use Rattle.store.specs.Store.{Holds}
 use Rattle.store.proofs.ExecutedInMemory as applying
 use Rattle.replica.specs.Pieces.{stream_of}
-use Rattle.replica.specs.Standing.{Stands}
+use Rattle.replica.specs.Standing.{Position, Stands, from_start}
 use Rattle.replica.specs.Over.{HasRead}
 use Rattle.replica.proofs.Positions.{conn_of, store_of}
 use Rattle.replica.proofs.Histories.{conn-unread, history-append, here, stays}
@@ -18,8 +18,8 @@ module _ {S : Type 0} (g : Ghosts S) (settled : (h : Held S) (db : Trees) → Is
       record { each = λ trees may. (content, applying.stays g store.following content settled store.conn trees h.rest may, refl) }
 
   -- a session that has read nothing, over a store
-  pub begins : (session : Session) (store : Store S g) (was : Bool) (content : Content) → HoldsAs g was content store → Stands session store.following was was content content [] []
-      → StandsOver g session store (state g store.conn).now.schema was content [] []
+  pub begins : (session : Session) (store : Store S g) (was : Bool) (content : Content) → HoldsAs g was content store → Stands session store.following (from_start was content) was content
+      → StandsOver g session store (state g store.conn).now.schema (from_start was content)
   begins session store was content holds stands = record {
     is = was;
     now = content;
@@ -67,24 +67,24 @@ module _ {S : Type 0} (g : Ghosts S) (settled : (h : Held S) (db : Trees) → Is
 
 module _ {S : Type 0} (g : Ghosts S) where
   -- the session was over at the end of the bytes
-  pub read_all : (session : Session) (before store : Store S g) (limit : ℕ) (was : Bool) (old : Content) (b o : List ℕ) (end : Ended) → session.config.limit ≡ limit → store.following ≡ before.following → end ≡ end_of session
-      → StandsOver g session store (state g before.conn).now.schema was old b o → HasRead g limit before store was old b end
-  read_all session before store limit was old b o end limit_is names end_is s =
-      let conn : Conn limit before.following was old b s.now (end_of session) =
-      subst (λ n. Conn n before.following was old b s.now (end_of session)) limit_is
-      (subst (λ n. Conn session.config.limit n was old b s.now (end_of session)) names (conn_of session store.following was s.is old s.now b o s.stands)) in
-      let leaves : was ≡ false → LeavesOnly g (state g before.conn).now.schema store (IsLeftOfOne limit before.following old b s.now (end_of session)) = λ w.
-      subst (λ n. LeavesOnly g (state g before.conn).now.schema store (IsLeftOfOne n before.following old b s.now (end_of session))) limit_is
-      (subst (λ n. LeavesOnly g (state g before.conn).now.schema store (IsLeftOfOne session.config.limit n old b s.now (end_of session))) names (s.leaves w)) in
+  pub read_all : (session : Session) (before store : Store S g) (limit : ℕ) (pos : Position) (end : Ended) → session.config.limit ≡ limit → store.following ≡ before.following → end ≡ end_of session
+      → StandsOver g session store (state g before.conn).now.schema pos → HasRead g limit before store pos.was pos.old pos.read end
+  read_all session before store limit pos end limit_is names end_is s =
+      let conn : Conn limit before.following pos.was pos.old pos.read s.now (end_of session) =
+      subst (λ n. Conn n before.following pos.was pos.old pos.read s.now (end_of session)) limit_is
+      (subst (λ n. Conn session.config.limit n pos.was pos.old pos.read s.now (end_of session)) names (conn_of session store.following pos s.is s.now s.stands)) in
+      let leaves : pos.was ≡ false → LeavesOnly g (state g before.conn).now.schema store (IsLeftOfOne limit before.following pos.old pos.read s.now (end_of session)) = λ w.
+      subst (λ n. LeavesOnly g (state g before.conn).now.schema store (IsLeftOfOne n before.following pos.old pos.read s.now (end_of session))) limit_is
+      (subst (λ n. LeavesOnly g (state g before.conn).now.schema store (IsLeftOfOne session.config.limit n pos.old pos.read s.now (end_of session))) names (s.leaves w)) in
       record {
         is = s.is;
         new = s.now;
         holds = s.holds;
         following = names;
-        conn = subst (λ (e : Ended). Conn limit before.following was old b s.now e) (sym end_is) conn;
-        breaks = subst (λ (e : Ended). BreaksStore e.reason was s.is) (sym end_is) (store_of session store.following was s.is old s.now b o s.stands);
+        conn = subst (λ (e : Ended). Conn limit before.following pos.was pos.old pos.read s.now e) (sym end_is) conn;
+        breaks = subst (λ (e : Ended). BreaksStore e.reason pos.was s.is) (sym end_is) (store_of session store.following pos s.is s.now s.stands);
         schema_is = s.schema_is;
-        leaves = λ w. subst (λ (e : Ended). LeavesOnly g (state g before.conn).now.schema store (IsLeftOfOne limit before.following old b s.now e)) (sym end_is) (leaves w);
+        leaves = λ w. subst (λ (e : Ended). LeavesOnly g (state g before.conn).now.schema store (IsLeftOfOne limit before.following pos.old pos.read s.now e)) (sym end_is) (leaves w);
       }
 
   broken_of : (is : Bool) (content : Content) (store : Store S g) → is ≡ true → HoldsAs g is content store → store.broken ≡ true

@@ -15,7 +15,7 @@ use Rattle.replica.specs.declared.following.Turn.TheVariants as turn
 use Rattle.replica.specs.Settings.{Settings}
 use Rattle.replica.specs.Conn.{Conn, IsOfBytes, EndsInLast, reported_as}
 use Rattle.replica.specs.Sent.{SentFor}
-use Rattle.replica.specs.Standing.{Stands, end_of, room_of}
+use Rattle.replica.specs.Standing.{Position, Stands, sends_on, end_of, room_of}
 use Rattle.replica.specs.Over.{StandsOver, HasRead}
 
 -- the end is caused by the bytes of the connection, or by a refused transaction
@@ -54,33 +54,43 @@ EndsInFull limit names was old b new end = (reason : Reason) × IsInFull reason 
 abbrev pub piece_length : ℕ
 piece_length = 65536
 
+-- What a stream has left to read, and what was written to it, before and after.
+pub record Exchange : Type 0 where
+  pub left : Option (List ℕ)
+  pub left' : Option (List ℕ)
+  pub written : Option (List ℕ)
+  pub written' : Option (List ℕ)
+
+-- of a stream, by what it says that it has left to read and that was written to it
+abbrev pub exchange : {T : Type 0} → (T → Option (List ℕ)) → (T → Option (List ℕ)) → T → T → Exchange
+exchange left written before after = record { left = left before; left' = left after; written = written before; written' = written after }
+
 module _ {S : Type 0} (g : Ghosts S) where
-  -- A store that held this content, and had failed or not, has followed a stream to this end. The stream had these
-  -- bytes left to read, and these bytes written, before and after.
-  pub record Follows (settings : Settings) (before after : Store S g) (was : Bool) (old : Content) (left left' written written' : Option (List ℕ)) (end : Ended) : Type 0 where
+  -- A store that held this content, and had failed or not, has followed a stream to this end.
+  pub record Follows (settings : Settings) (before after : Store S g) (was : Bool) (old : Content) (stream : Exchange) (end : Ended) : Type 0 where
     -- the bytes read, the bytes sent, and the pending output that was not sent
     pub read : List ℕ
     pub sent : List ℕ
     pub pending : List ℕ
-    pub reads : Consumes left left' read
-    pub writes : Appends written written' sent
+    pub reads : Consumes stream.left stream.left' read
+    pub writes : Appends stream.written stream.written' sent
     pub has_read : HasRead g settings.limit before after was old read end
     pub last : EndsInLast settings.limit piece_length (names_of g before) was old [] read
     pub in_full : IsOfStream end.reason → EndsInFull settings.limit (names_of g before) was old read has_read.new end
     -- a read fails only if the bytes read do not end the connection
     pub unended : end.reason ≡ ReadFailed → Conn settings.limit (names_of g before) was old read has_read.new (reported_as EndOfInput end)
-    pub all_read : end.reason ≡ EndOfInput → IsAtEnd left'
+    pub all_read : end.reason ≡ EndOfInput → IsAtEnd stream.left'
     pub is_due : SentFor settings (names_of g before) old.executed read end.at (sent ++ pending)
     pub all_sent : MaySendLess end.reason ⊎ (pending ≡ [])
 
   -- While a stream is followed these bytes have been read and these sent, and this is the position of the session and
   -- its store.
-  pub record IsFollowing (session : Session) (before store : Store S g) (was : Bool) (old : Content) (left left' written written' : Option (List ℕ)) : Type 0 where
+  pub record IsFollowing (session : Session) (before store : Store S g) (was : Bool) (old : Content) (stream : Exchange) : Type 0 where
     pub read : List ℕ
     pub sent : List ℕ
-    pub reads : Consumes left left' read
-    pub writes : Appends written written' sent
-    pub stands : StandsOver g session store (database g before).now.schema was old read sent
+    pub reads : Consumes stream.left stream.left' read
+    pub writes : Appends stream.written stream.written' sent
+    pub stands : StandsOver g session store (database g before).now.schema (record { was = was; old = old; read = read; sent = sent })
     pub last : EndsInLast session.config.limit piece_length (names_of g before) was old [] read
 
 -- none after the end
@@ -95,8 +105,8 @@ turns_left session = while_going session.ended (room_of session + 1)
 -- The session hands out these bytes: its position is the same with them sent, and everything due in reply to the
 -- payloads taken has been sent.
 pub record HandsOut (before after : Session) (out : List ℕ) : Type 0 where
-  pub stands : (names : Names) (was is : Bool) (old now : Content) (b o : List ℕ) → Stands before names was is old now b o → Stands after names was is old now b (o ++ out)
-  pub sent : (names : Names) (was is : Bool) (old now : Content) (b o : List ℕ) → Stands before names was is old now b o → SentFor before.config names old.executed b (end_of before).at (o ++ out)
+  pub stands : (names : Names) (pos : Position) (is : Bool) (now : Content) → Stands before names pos is now → Stands after names (sends_on pos out) is now
+  pub sent : (names : Names) (pos : Position) (is : Bool) (now : Content) → Stands before names pos is now → SentFor before.config names pos.old.executed pos.read (end_of before).at (pos.sent ++ out)
   pub config : after.config ≡ before.config
   pub ended : after.ended ≡ before.ended
   pub end : end_of after ≡ end_of before

@@ -22,7 +22,7 @@ use Rattle.replica.specs.Settings.{Settings}
 use Rattle.replica.specs.Crash as crash
 use Rattle.replica.specs.File.{AreClosedWith}
 use Rattle.replica.specs.Failing.{HaveFailed}
-use Rattle.replica.specs.Follow.{Follows, failed_reads_of, failed_writes_of}
+use Rattle.replica.specs.Follow.{Follows, exchange, failed_reads_of, failed_writes_of}
 
 -- A failed read is reported exactly if a read of the stream has failed, and a failed write likewise; no call follows it.
 pub record CountsFailures {T : Type 0} (end : Ended) (stream : Counted T) : Type 0 where
@@ -35,7 +35,7 @@ module _ {S : Type 0} (g : Ghosts S) {T E : Type 0} (left written : T → Option
   pub record FollowsOver (before after : Store S g) (was : Bool) (old : Content) (end : Ended) (last : T) : Type 0 where
     pub stream : T
     pub given : gives old.executed (Ok stream)
-    pub follows : Follows g settings before after was old (left stream) (left last) (written stream) (written last) end
+    pub follows : Follows g settings before after was old (exchange left written stream last) end
     -- the failures that the stream reports are the one in the end, or none
     pub reported : HaveFailed (failures stream) (failures last) (failed_reads_of end.reason) (failed_writes_of end.reason)
 

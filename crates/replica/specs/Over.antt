@@ -4,6 +4,7 @@ use Rattle.std.specs.Io.KnownBytes.{Consumes}
 use Rattle.sqlite_trees.specs.declared.store.Store.{Ghosts}
 use Rattle.sqlite_trees.specs.Tree.{Trees}
 use Rattle.sqlite_schema.specs.declared.schema.Schema.{Schema}
+use Rattle.wire.specs.Payload.{Payload}
 use Rattle.store.specs.State.{Content}
 use Rattle.store.specs.Apply.{IsAtRest}
 use Rattle.store.specs.declared.store.Store.{Store}
@@ -11,8 +12,15 @@ use Rattle.store.specs.Store.{HoldsAs, AreOf, database, names_of}
 use Rattle.replica.specs.declared.end.Ended.{Ended}
 use Rattle.replica.specs.declared.session.Session.{Session}
 use Rattle.replica.specs.Conn.{Conn, EndsInLast, BreaksStore, History}
-use Rattle.replica.specs.Standing.{Stands, Meets, end_of}
+use Rattle.replica.specs.Standing.{Position, Stands, Meets, end_of}
 use Rattle.replica.specs.Crash.{IsLeftOfOne, IsLeftOfAll}
+
+-- First bytes, and a reader of more, from which pieces of at most so many bytes are taken: what it has left before and after.
+pub record Taking : Type 0 where
+  pub first : List ℕ
+  pub most : ℕ
+  pub left : Option (List ℕ)
+  pub left' : Option (List ℕ)
 
 module _ {S : Type 0} (g : Ghosts S) where
   -- Whatever a crash may leave of the store's database stands, under the schema, for one of these contents.
@@ -27,24 +35,23 @@ module _ {S : Type 0} (g : Ghosts S) where
     pub schema : Schema
     pub leaves : LeavesOnly schema store left
 
-  -- The position of a session and its store: the session was begun when the store held this content under this schema
-  -- and had failed or not, and it has read the bytes b and handed out the bytes o.
-  pub record StandsOver (session : Session) (store : Store S g) (schema : Schema) (was : Bool) (old : Content) (b o : List ℕ) : Type 0 where
+  -- The session is at this position over the store, whose tables had this schema when the session was begun.
+  pub record StandsOver (session : Session) (store : Store S g) (schema : Schema) (pos : Position) : Type 0 where
     pub is : Bool
     pub now : Content
     pub holds : HoldsAs g is now store
-    pub stands : Stands session (names_of g store) was is old now b o
+    pub stands : Stands session (names_of g store) pos is now
     pub schema_is : is ≡ false → (database g store).now.schema ≡ schema
-    pub leaves : was ≡ false → LeavesOnly schema store (IsLeftOfOne session.config.limit (names_of g store) old b now (end_of session))
+    pub leaves : pos.was ≡ false → LeavesOnly schema store (IsLeftOfOne session.config.limit (names_of g store) pos.old pos.read now (end_of session))
 
   -- As StandsOver, with a payload that has come and is still to be taken.
-  pub record MeetsOver (session : Session) (store : Store S g) (schema : Schema) (was : Bool) (old : Content) (b o p : List ℕ) : Type 0 where
+  pub record MeetsOver (session : Session) (store : Store S g) (schema : Schema) (pos : Position) (p : Payload) : Type 0 where
     pub is : Bool
     pub now : Content
     pub holds : HoldsAs g is now store
-    pub meets : Meets session (names_of g store) was is old now b o p
+    pub meets : Meets session (names_of g store) pos is now p
     pub schema_is : is ≡ false → (database g store).now.schema ≡ schema
-    pub leaves : was ≡ false → LeavesOnly schema store (λ left. left ≡ now)
+    pub leaves : pos.was ≡ false → LeavesOnly schema store (λ left. left ≡ now)
 
   -- A store that held this content, and had failed or not, has read one connection with this end.
   pub record HasRead (limit : ℕ) (before after : Store S g) (was : Bool) (old : Content) (b : List ℕ) (end : Ended) : Type 0 where
@@ -57,14 +64,14 @@ module _ {S : Type 0} (g : Ghosts S) where
     pub schema_is : is ≡ false → (database g after).now.schema ≡ (database g before).now.schema
     pub leaves : was ≡ false → LeavesOnly (database g before).now.schema after (IsLeftOfOne limit (names_of g before) old b new end)
 
-  -- A store that held this content, and had failed or not, has read a connection with this end: these first bytes, and
-  -- those that were taken from a reader, a piece of at most so many bytes at a time.
-  pub record HasReadOf (limit most : ℕ) (before after : Store S g) (was : Bool) (old : Content) (first : List ℕ) (left left' : Option (List ℕ)) (end : Ended) : Type 0 where
+  -- A store that held this content, and had failed or not, has read a connection with this end: the first bytes, and those that were
+  -- taken from the reader.
+  pub record HasReadOf (limit : ℕ) (before after : Store S g) (was : Bool) (old : Content) (taking : Taking) (end : Ended) : Type 0 where
     pub read : List ℕ
-    pub consumes : Consumes left left' read
-    pub has_read : HasRead limit before after was old (first ++ read) end
+    pub consumes : Consumes taking.left taking.left' read
+    pub has_read : HasRead limit before after was old (taking.first ++ read) end
     -- none were taken after the piece in which the connection ended
-    pub last : (read ≡ []) ⊎ EndsInLast limit most (names_of g before) was old first read
+    pub last : (read ≡ []) ⊎ EndsInLast limit taking.most (names_of g before) was old taking.first read
 
   -- A store that held this content under this schema, and had failed or not, has read these connections with these
   -- ends.

@@ -34,56 +34,101 @@ due_of phase.Dump = InDump
 abbrev pub end_of : Session → Ended
 end_of session = unwrap_or session.ended (record { reason = EndOfInput; at = session.at; applied = session.applied })
 
--- The connection goes on. `all` is what was sent and the pending output. (It is a relation on the parts of a session,
--- so that it stays true if another part changes.)
-pub record GoesOn (settings : Settings) (assembly : ReaderState) (gatherer : Gatherer) (waits : Phase) (at applied : ℕ) (names : Names) (was is : Bool) (old now : Content) (b all : List ℕ) : Type 0 where
-  pub reading : Reading settings.limit names b
-  pub held : reading.rest ≡ assembly.held
-  pub at_is : at ≡ length reading.front
-  pub limit : assembly.limit ≡ settings.limit
-  pub id : assembly.due ≡ reading.id
-  pub reads : assembly.ended ≡ false
-  pub unfinished : IsUnfinished reading.id settings.limit assembly.held
-  pub awaits : due_of waits ≡ due_after reading.payloads
-  pub gathers : Gathers reading.events reading.deliveries gatherer
-  pub has_applied : HasApplied names old reading.deliveries (due_after reading.payloads) applied now
-  pub sent : Sent settings old.executed reading.payloads all
-  pub store : is ≡ was
-  pub kept : was ≡ true → now ≡ old
+-- The parts of a session that say how far it has come: what is held of a payload, the transaction that is gathered, the phase, the
+-- offset after the payloads taken, and how many transactions were applied.
+pub record Parts : Type 0 where
+  pub settings : Settings
+  pub assembly : ReaderState
+  pub gatherer : Gatherer
+  pub phase : Phase
+  pub at : ℕ
+  pub applied : ℕ
+
+abbrev pub parts_of : Session → Parts
+parts_of session = record {
+  settings = session.config;
+  assembly = session.assembler;
+  gatherer = session.gatherer;
+  phase = session.phase;
+  at = session.at;
+  applied = session.applied;
+}
+
+-- Where a session stands: whether the store had failed, and what it held, when the session was begun; and the bytes that were read
+-- and sent since.
+pub record Position : Type 0 where
+  pub was : Bool
+  pub old : Content
+  pub read : List ℕ
+  pub sent : List ℕ
+
+-- these bytes were read, and nothing was sent
+abbrev pub having_read : Bool → Content → List ℕ → Position
+having_read was old bytes = record { was = was; old = old; read = bytes; sent = [] }
+
+-- nothing was read or sent
+abbrev pub from_start : Bool → Content → Position
+from_start was old = having_read was old []
+
+-- with more bytes read
+abbrev pub reads_on : Position → List ℕ → Position
+reads_on pos more = record { was = pos.was; old = pos.old; read = pos.read ++ more; sent = pos.sent }
+
+-- with more bytes sent
+abbrev pub sends_on : Position → List ℕ → Position
+sends_on pos more = record { was = pos.was; old = pos.old; read = pos.read; sent = pos.sent ++ more }
+
+-- The connection goes on. What is sent of the position includes the pending output. `is` says whether the store has failed now, which
+-- holds `now`. (It is a relation on the parts of a session, so that it stays true if another part changes.)
+pub record GoesOn (parts : Parts) (names : Names) (pos : Position) (is : Bool) (now : Content) : Type 0 where
+  pub reading : Reading parts.settings.limit names pos.read
+  pub held : reading.rest ≡ parts.assembly.held
+  pub at_is : parts.at ≡ length reading.front
+  pub limit : parts.assembly.limit ≡ parts.settings.limit
+  pub id : parts.assembly.due ≡ reading.id
+  pub reads : parts.assembly.ended ≡ false
+  pub unfinished : IsUnfinished reading.id parts.settings.limit parts.assembly.held
+  pub awaits : due_of parts.phase ≡ due_after reading.payloads
+  pub gathers : Gathers reading.events reading.deliveries parts.gatherer
+  pub has_applied : HasApplied names pos.old reading.deliveries (due_after reading.payloads) parts.applied now
+  pub sent : Sent parts.settings pos.old.executed reading.payloads pos.sent
+  pub store : is ≡ pos.was
+  pub kept : pos.was ≡ true → now ≡ pos.old
 
 -- The connection has ended.
-pub record HasEnded (settings : Settings) (names : Names) (was is : Bool) (old now : Content) (b all : List ℕ) (end : Ended) : Type 0 where
-  pub conn : Conn settings.limit names was old b now end
+pub record HasEnded (settings : Settings) (names : Names) (pos : Position) (is : Bool) (now : Content) (end : Ended) : Type 0 where
+  pub conn : Conn settings.limit names pos.was pos.old pos.read now end
   pub more : end.reason ≢ EndOfInput
-  pub sent : SentFor settings names old.executed b end.at all
-  pub store : BreaksStore end.reason was is
+  pub sent : SentFor settings names pos.old.executed pos.read end.at pos.sent
+  pub store : BreaksStore end.reason pos.was is
 
--- The position of a session: it was begun with this content, has read the bytes b and handed out the bytes o. The store
--- holds `now`; `was` and `is` say whether it had failed then and has failed now.
-unfoldable pub Stands : Session → Names → Bool → Bool → Content → Content → List ℕ → List ℕ → Type 0
-Stands session names was is old now b o =
+-- The session is at this position, over a store that has failed or not, and holds `now`.
+unfoldable pub Stands : Session → Names → Position → Bool → Content → Type 0
+Stands session names pos is now =
     MatchOption session.ended
-    (GoesOn session.config session.assembler session.gatherer session.phase session.at session.applied names was is old now b (o ++ session.out.items))
-    (λ end. HasEnded session.config names was is old now b (o ++ session.out.items) end)
+    (GoesOn (record { settings = session.config; assembly = session.assembler; gatherer = session.gatherer; phase = session.phase; at = session.at; applied = session.applied })
+    names (sends_on pos session.out.items) is now)
+    (λ end. HasEnded session.config names (sends_on pos session.out.items) is now end)
 
 -- A payload has come after those taken, and is still to be taken.
-pub record HasPayload (settings : Settings) (assembly : ReaderState) (gatherer : Gatherer) (waits : Phase) (at applied : ℕ) (names : Names) (was is : Bool) (old now : Content) (b all : List ℕ) (p : Payload) : Type 0 where
-  pub reading : Reading settings.limit names b
-  pub whole : IsWholePayload reading.id settings.limit reading.rest p assembly.due
-  pub at_is : at ≡ length reading.front
-  pub limit : assembly.limit ≡ settings.limit
-  pub held : assembly.held ≡ []
-  pub reads : assembly.ended ≡ false
-  pub awaits : due_of waits ≡ due_after reading.payloads
-  pub gathers : Gathers reading.events reading.deliveries gatherer
-  pub has_applied : HasApplied names old reading.deliveries (due_after reading.payloads) applied now
-  pub sent : Sent settings old.executed reading.payloads all
-  pub store : is ≡ was
-  pub kept : was ≡ true → now ≡ old
+pub record HasPayload (parts : Parts) (names : Names) (pos : Position) (is : Bool) (now : Content) (p : Payload) : Type 0 where
+  pub reading : Reading parts.settings.limit names pos.read
+  pub whole : IsWholePayload reading.id parts.settings.limit reading.rest p parts.assembly.due
+  pub at_is : parts.at ≡ length reading.front
+  pub limit : parts.assembly.limit ≡ parts.settings.limit
+  pub held : parts.assembly.held ≡ []
+  pub reads : parts.assembly.ended ≡ false
+  pub awaits : due_of parts.phase ≡ due_after reading.payloads
+  pub gathers : Gathers reading.events reading.deliveries parts.gatherer
+  pub has_applied : HasApplied names pos.old reading.deliveries (due_after reading.payloads) parts.applied now
+  pub sent : Sent parts.settings pos.old.executed reading.payloads pos.sent
+  pub store : is ≡ pos.was
+  pub kept : pos.was ≡ true → now ≡ pos.old
 
-abbrev pub Meets : Session → Names → Bool → Bool → Content → Content → List ℕ → List ℕ → Payload → Type 0
-Meets session names was is old now b o p =
-    HasPayload session.config session.assembler session.gatherer session.phase session.at session.applied names was is old now b (o ++ session.out.items) p
+abbrev pub Meets : Session → Names → Position → Bool → Content → Payload → Type 0
+Meets session names pos is now p =
+    HasPayload (record { settings = session.config; assembly = session.assembler; gatherer = session.gatherer; phase = session.phase; at = session.at; applied = session.applied })
+    names (sends_on pos session.out.items) is now p
 
 -- the sequence id of the first packet of the expected message, before any payload of the dump has come
 abbrev pub first_id_of : Phase → ℕ

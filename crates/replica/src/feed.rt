@@ -7,7 +7,7 @@ ghost use Rattle.binlog.specs.Filter.{Names};
 ghost use Rattle.store.specs.State.{Content};
 ghost use Rattle.replica.specs.Conn.{Conn, BreaksStore, IsOwn};
 ghost use Rattle.replica.specs.Sent.{SentFor};
-ghost use Rattle.replica.specs.Standing.{Stands, end_of, room_of, taken_of};
+ghost use Rattle.replica.specs.Standing.{Position, Stands, from_start, reads_on, sends_on, end_of, room_of, taken_of};
 ghost use Rattle.replica.specs.Over.{StandsOver};
 ghost use Rattle.replica.specs.PayloadStep.{reason_of};
 ghost use Rattle.store.specs.Store.{database};
@@ -47,7 +47,7 @@ impl Session {
         // Over any store it starts with nothing read or sent. (`Stands` relates a session to the bytes that it has read
         // and sent.)
         ensures stands { (names : Names) (broken : Bool) (content : Content)
-            → Stands result names broken broken content content [] [] }
+            → Stands result names (from_start broken content) broken content }
         ensures config { result.config ≡ config }
         ensures ended { result.ended ≡ None }
         ensures none { (result.at ≡ 0) × (result.applied ≡ 0) }
@@ -72,11 +72,11 @@ impl Session {
     /// The call that reaches the end of the connection returns `Ok`. After the end nothing is read, and the answer is
     /// `Stopped`.
     pub fn feed<S: Alter>(&mut self, store: &mut Store<S>, bytes: &[u8]) -> Result<(), Stopped>
-        // If the session and its store had read b and sent o, they have now read b and these bytes, and sent o.
+        // At whatever position the session stood over the store, it is now at the one with these bytes read too.
         ensures stands { HasCleanDisk (database S.Store store.new)
-            → (schema : Schema) (was : Bool) (old : Content) (b o : List ℕ)
-            → StandsOver S.Store self.old store.old schema was old b o
-            → StandsOver S.Store self.new store.new schema was old (b ++ bytes.now) o }
+            → (schema : Schema) (pos : Position)
+            → StandsOver S.Store self.old store.old schema pos
+            → StandsOver S.Store self.new store.new schema (reads_on pos bytes.now) }
         // It follows the same tables, and a store that has failed stays as it is.
         ensures keeps { KeepsStore S.Store store.old store.new }
         ensures config { self.new.config ≡ self.old.config }
@@ -98,9 +98,9 @@ impl Session {
         observer: &mut W,
     ) -> Result<(), Stopped>
         ensures stands { HasCleanDisk (database S.Store store.new)
-            → (schema : Schema) (was : Bool) (old : Content) (b o : List ℕ)
-            → StandsOver S.Store self.old store.old schema was old b o
-            → StandsOver S.Store self.new store.new schema was old (b ++ bytes.now) o }
+            → (schema : Schema) (pos : Position)
+            → StandsOver S.Store self.old store.old schema pos
+            → StandsOver S.Store self.new store.new schema (reads_on pos bytes.now) }
         // What was reported to the observer leads from the content before to the one afterwards; once it has stopped, the store
         // stays as it is.
         ensures keeps { KeepsObserved S.Store store.old store.new (W.account observer.old)
@@ -133,10 +133,10 @@ impl Session {
         observer: &mut W,
     ) -> Option<usize>
         ensures stands { HasCleanDisk (database S.Store store.new)
-            → (schema : Schema) (was : Bool) (old : Content) (b o : List ℕ)
-            → StandsOver S.Store self.old store.old schema was old b o
-            → StandsOver S.Store self.new store.new schema was old
-            (b ++ taken_of result bytes.now) o }
+            → (schema : Schema) (pos : Position)
+            → StandsOver S.Store self.old store.old schema pos
+            → StandsOver S.Store self.new store.new schema
+            (reads_on pos (taken_of result bytes.now)) }
         ensures used { IfSome result (λ used. (0 < used) × (used ≤ length bytes.now)) }
         ensures keeps { KeepsObserved S.Store store.old store.new (W.account observer.old)
             (W.account observer.new) [] }
@@ -164,14 +164,14 @@ impl Session {
 
     /// Returns the pending output: the bytes that are to be sent since the last call. It takes no memory.
     pub fn take_out(&mut self) -> Vec<u8>
-        ensures stands { (names : Names) (was is : Bool) (old now : Content) (b o : List ℕ)
-            → Stands self.old names was is old now b o
-            → Stands self.new names was is old now b (o ++ result.items) }
+        ensures stands { (names : Names) (pos : Position) (is : Bool) (now : Content)
+            → Stands self.old names pos is now
+            → Stands self.new names (sends_on pos result.items) is now }
         // With it, everything due in reply to the payloads taken has been sent.
-        ensures sent { (names : Names) (was is : Bool) (old now : Content) (b o : List ℕ)
-            → Stands self.old names was is old now b o
-            → SentFor self.old.config names old.executed b (end_of self.old).at
-            (o ++ result.items) }
+        ensures sent { (names : Names) (pos : Position) (is : Bool) (now : Content)
+            → Stands self.old names pos is now
+            → SentFor self.old.config names pos.old.executed pos.read (end_of self.old).at
+            (pos.sent ++ result.items) }
         ensures config { self.new.config ≡ self.old.config }
         ensures end { end_of self.new ≡ end_of self.old }
         ensures ended { self.new.ended ≡ self.old.ended }
@@ -191,11 +191,11 @@ impl Session {
     /// How the connection ends if no more bytes come. It takes no memory.
     pub fn finish(self) -> Ended
         ensures end { result ≡ end_of self }
-        ensures conn { (names : Names) (was is : Bool) (old now : Content) (b o : List ℕ)
-            → Stands self names was is old now b o → Conn self.config.limit names was old b now
-            result }
-        ensures store { (names : Names) (was is : Bool) (old now : Content) (b o : List ℕ)
-            → Stands self names was is old now b o → BreaksStore result.reason was is }
+        ensures conn { (names : Names) (pos : Position) (is : Bool) (now : Content)
+            → Stands self names pos is now
+            → Conn self.config.limit names pos.was pos.old pos.read now result }
+        ensures store { (names : Names) (pos : Position) (is : Bool) (now : Content)
+            → Stands self names pos is now → BreaksStore result.reason pos.was is }
     {
         let Session {
             at,

@@ -6,12 +6,12 @@ ghost use Rattle.sqlite.specs.State.{HasCleanDisk};
 ghost use Rattle.sqlite_schema.specs.declared.schema.Schema.{Schema};
 ghost use Rattle.store.specs.State.{Content};
 ghost use Rattle.store.specs.Store.{HoldsAs, database};
-ghost use Rattle.replica.specs.Standing.{end_of};
+ghost use Rattle.replica.specs.Standing.{Position, reads_on, end_of};
 ghost use Rattle.replica.specs.Over.{StandsOver};
 ghost use Rattle.replica.specs.Noted.{IsAsked, MayEnd};
 ghost use Rattle.replica.specs.Missing.{waits_for_none};
 ghost use Rattle.replica.specs.Failing.{HaveFailed};
-ghost use Rattle.replica.specs.Follow.{Follows, HandsOut, sends_no_more_after, reads_failed, turns_left, failed_reads_of, failed_writes_of};
+ghost use Rattle.replica.specs.Follow.{Follows, HandsOut, exchange, sends_no_more_after, reads_failed, turns_left, failed_reads_of, failed_writes_of};
 ghost use Rattle.replica.specs.Keeps.{KeepsStore, KeepsObserved};
 
 use crate::config::Config;
@@ -106,9 +106,9 @@ fn read_piece<T: Duplex, S: Alter, W: Observer>(
     ensures read { result ≡ Turn.Read → (x : List ℕ) × (length x ≤ length buffer.old)
         × Consumes (T.Read.remaining stream.old.stream) (T.Read.remaining stream.new.stream) x
         × (HasCleanDisk (database S.Store store.new)
-        → (schema : Schema) (was : Bool) (old : Content) (b o : List ℕ)
-        → StandsOver S.Store session.old store.old schema was old b o
-        → StandsOver S.Store session.new store.new schema was old (b ++ x) o) }
+        → (schema : Schema) (pos : Position)
+        → StandsOver S.Store session.old store.old schema pos
+        → StandsOver S.Store session.new store.new schema (reads_on pos x)) }
     ensures apart { Keeps (T.Write.contents stream.old.stream)
         (T.Write.contents stream.new.stream) }
     ensures reads { stream.new.failed_reads ≡ stream.old.failed_reads + reads_failed result }
@@ -172,8 +172,7 @@ pub fn follow<T: Duplex, S: Alter>(
     // to them.
     ensures follows { HasCleanDisk (database S.Store store.new) → (was : Bool) (old : Content)
         → HoldsAs S.Store was old store.old → Follows S.Store config store.old store.new was old
-        (T.Read.remaining stream.old.stream) (T.Read.remaining stream.new.stream)
-        (T.Write.contents stream.old.stream) (T.Write.contents stream.new.stream) result }
+        (exchange T.Read.remaining T.Write.contents stream.old.stream stream.new.stream) result }
     // Nothing halts the connection.
     ensures going { result.reason ≢ Reason.Halted }
     // A failure of the stream is reported exactly if there was one.
@@ -209,8 +208,7 @@ pub fn follow_observed<T: Duplex, S: Alter, W: Observer>(
     requires writes { stream.old.failed_writes < 2 ^ 64 - 1 }
     ensures follows { HasCleanDisk (database S.Store store.new) → (was : Bool) (old : Content)
         → HoldsAs S.Store was old store.old → Follows S.Store config store.old store.new was old
-        (T.Read.remaining stream.old.stream) (T.Read.remaining stream.new.stream)
-        (T.Write.contents stream.old.stream) (T.Write.contents stream.new.stream) result }
+        (exchange T.Read.remaining T.Write.contents stream.old.stream stream.new.stream) result }
     // The connection is halted, or ended with `Until`, only if the observer asked for that.
     ensures asked { IsAsked result.reason (W.account observer.new) }
     // What was reported to the observer leads from the content before to the one afterwards; once it has stopped, the store

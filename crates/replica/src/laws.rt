@@ -31,7 +31,7 @@ ghost use Rattle.replica.specs.Outcome.{IsSameEnd, HasEnd};
 ghost use Rattle.replica.specs.Conn.{Conn, AppliesAll, AppliesFirst, BreaksStore, IsDumpTooLong, IsOfBytes};
 ghost use Rattle.replica.specs.Crash.{IsLeftOfOne, LeavesFirst};
 ghost use Rattle.replica.specs.Sent.{SentFor};
-ghost use Rattle.replica.specs.Standing.{Stands, end_of};
+ghost use Rattle.replica.specs.Standing.{Position, Stands, from_start, sends_on, end_of};
 ghost use Rattle.replica.specs.Over.{StandsOver};
 ghost use Rattle.replica.specs.Follow.{HandsOut, IsInFull};
 ghost use Rattle.replica.specs.File.{FilesHold, AreClosedWith, IsTurnedAway};
@@ -52,44 +52,44 @@ use store::Store;
 /// A session that has read nothing begins at any store, with the content that the store holds.
 pub fn begins<S: Alter>(_session: &Session, _store: &Store<S>)
     ensures { (was : Bool) (content : Content) → HoldsAs S.Store was content _store.now
-        → Stands _session.now (names_of S.Store _store.now) was was content content [] []
+        → Stands _session.now (names_of S.Store _store.now) (from_start was content) was content
         → StandsOver S.Store _session.now _store.now
-        (database S.Store _store.now).now.schema was content [] [] }
+        (database S.Store _store.now).now.schema (from_start was content) }
 {}
 
 /// What a session hands out (`Session::take_out`) counts as sent, also together with a store.
 pub fn handed_out<S: Alter>(_before: &Session, _after: &Session, _store: &Store<S>)
-    ensures { (schema : Schema) (was : Bool) (old : Content) (b o out : List ℕ)
-        → HandsOut _before.now _after.now out → StandsOver S.Store _before.now _store.now schema was
-        old b o → StandsOver S.Store _after.now _store.now schema was old b (o ++ out) }
+    ensures { (schema : Schema) (pos : Position) (out : List ℕ)
+        → HandsOut _before.now _after.now out → StandsOver S.Store _before.now _store.now schema pos
+        → StandsOver S.Store _after.now _store.now schema (sends_on pos out) }
 {}
 
 /// A session's position determines how its connection ends if no more bytes come, what the store holds, and what was
 /// sent.
 pub fn stood(_session: &Session)
-    ensures conn { (names : Names) (was is : Bool) (old now : Content) (b o : List ℕ)
-        → Stands _session.now names was is old now b o
-        → Conn _session.now.config.limit names was old b now (end_of _session.now) }
-    ensures sent { (names : Names) (was is : Bool) (old now : Content) (b o : List ℕ)
-        → Stands _session.now names was is old now b o
-        → SentFor _session.now.config names old.executed b (end_of _session.now).at
-        (o ++ _session.now.out.items) }
+    ensures conn { (names : Names) (pos : Position) (is : Bool) (now : Content)
+        → Stands _session.now names pos is now
+        → Conn _session.now.config.limit names pos.was pos.old pos.read now (end_of _session.now) }
+    ensures sent { (names : Names) (pos : Position) (is : Bool) (now : Content)
+        → Stands _session.now names pos is now
+        → SentFor _session.now.config names pos.old.executed pos.read (end_of _session.now).at
+        (pos.sent ++ _session.now.out.items) }
     // The store holds what the first transactions of the bytes, some number of them, make of what it held.
-    ensures state { (names : Names) (was is : Bool) (old now : Content) (b o : List ℕ)
-        → Stands _session.now names was is old now b o
-        → (count : ℕ) × AppliesFirst _session.now.config.limit names old b count
+    ensures state { (names : Names) (pos : Position) (is : Bool) (now : Content)
+        → Stands _session.now names pos is now
+        → (count : ℕ) × AppliesFirst _session.now.config.limit names pos.old pos.read count
         (end_of _session.now).applied now }
     // An end caused by the bytes is the end of these bytes, except for a dump command that would be too long.
-    ensures reason { (names : Names) (was is : Bool) (old now : Content) (b o : List ℕ)
-        → Stands _session.now names was is old now b o → IsOfBytes (end_of _session.now).reason
-        → End _session.now.config.limit names b (end_of _session.now).reason
+    ensures reason { (names : Names) (pos : Position) (is : Bool) (now : Content)
+        → Stands _session.now names pos is now → IsOfBytes (end_of _session.now).reason
+        → End _session.now.config.limit names pos.read (end_of _session.now).reason
         (end_of _session.now).at ⊎ (((end_of _session.now).reason ≡ Wire wire.TooLarge)
-        × IsDumpTooLong old.executed) }
-    ensures store { (names : Names) (was is : Bool) (old now : Content) (b o : List ℕ)
-        → Stands _session.now names was is old now b o
-        → BreaksStore (end_of _session.now).reason was is }
-    ensures ended { (names : Names) (was is : Bool) (old now : Content) (b o : List ℕ)
-        → Stands _session.now names was is old now b o
+        × IsDumpTooLong pos.old.executed) }
+    ensures store { (names : Names) (pos : Position) (is : Bool) (now : Content)
+        → Stands _session.now names pos is now
+        → BreaksStore (end_of _session.now).reason pos.was is }
+    ensures ended { (names : Names) (pos : Position) (is : Bool) (now : Content)
+        → Stands _session.now names pos is now
         → (_session.now.ended ≡ None) ↔ ((end_of _session.now).reason ≡ EndOfInput) }
 {}
 

@@ -6,7 +6,7 @@ ghost use Rattle.sqlite_schema.specs.declared.schema.Schema.{Schema};
 ghost use Rattle.binlog.specs.Filter.{Names};
 ghost use Rattle.wire.specs.Packet.{packing_length};
 ghost use Rattle.store.specs.State.{Content};
-ghost use Rattle.replica.specs.Standing.{Stands, Meets, first_id_of, offset_of, MovesOn, room_of, end_of};
+ghost use Rattle.replica.specs.Standing.{Position, Stands, Meets, first_id_of, offset_of, MovesOn, room_of, end_of};
 ghost use Rattle.replica.specs.Conn.{IsOwn};
 ghost use Rattle.replica.specs.Over.{StandsOver, MeetsOver};
 ghost use Rattle.replica.specs.declared.phase.Phase.TheVariants as phase;
@@ -94,10 +94,10 @@ impl Session {
         ensures may_end { IsOwn (end_of self.new).reason }
         ensures further { self.new.ended ≡ None → (self.new.at ≡ end)
             × (self.new.assembler.held ≡ []) }
-        ensures takes { (names : Names) (was is : Bool) (old now : Content) (b o : List ℕ)
+        ensures takes { (names : Names) (pos : Position) (is : Bool) (now : Content)
             → executed.now ≡ now.executed → end ≡ self.old.at + packing_length (length payload.now)
-            → Meets self.old names was is old now b o payload.now
-            → Stands self.new names was is old now b o }
+            → Meets self.old names pos is now payload.now
+            → Stands self.new names pos is now }
     {
         match answer(login, &self.config, executed, payload, &mut self.out) {
             Ok(phase) => {
@@ -131,10 +131,10 @@ impl Session {
         ensures until { self.new.ended ≡ None → self.new.applied ≢ self.old.applied
             → waits_for_none (W.account observer.new).waits ≡ false }
         ensures takes { HasCleanDisk (database S.Store store.new)
-            → (schema : Schema) (was : Bool) (old : Content) (b o : List ℕ)
+            → (schema : Schema) (pos : Position)
             → end ≡ self.old.at + packing_length (length payload.now)
-            → MeetsOver S.Store self.old store.old schema was old b o payload.now
-            → StandsOver S.Store self.new store.new schema was old b o }
+            → MeetsOver S.Store self.old store.old schema pos payload.now
+            → StandsOver S.Store self.new store.new schema pos }
     {
         let alloc = self.config.alloc();
         let applied = match take_event(alloc, &mut self.gatherer, store, payload, observer) {
@@ -170,9 +170,9 @@ impl Session {
         ensures room { self.new.ended ≡ None → room_of self.new + packing_length
             (length payload.now) ≤ room_of self.old }
         ensures takes { HasCleanDisk (database S.Store store.new)
-            → (schema : Schema) (was : Bool) (old : Content) (b o : List ℕ)
-            → MeetsOver S.Store self.old store.old schema was old b o payload.now
-            → StandsOver S.Store self.new store.new schema was old b o }
+            → (schema : Schema) (pos : Position)
+            → MeetsOver S.Store self.old store.old schema pos payload.now
+            → StandsOver S.Store self.new store.new schema pos }
     {
         let Some(end) = self.at.checked_add(packing_length(payload.len()) as u64) else {
             self.end(Reason::Wire(WireFault::TooLarge));

@@ -2,6 +2,7 @@ use Rattle.replica.proofs.Names.{◌≡◌, ◌++◌, ◌∷◌, ◌+◌, ℕ, L
 use Rattle.std.proofs.lemmas.List.{take_all}
 use Rattle.sqlite.specs.Held.{state}
 use Rattle.replica.specs.Pieces.{stream_of}
+use Rattle.replica.specs.Standing.{having_read}
 use Rattle.replica.specs.Over.{HasRead}
 use Rattle.replica.proofs.Histories.{stream-more}
 use Rattle.replica.proofs.Runs.{begins, read_all}
@@ -29,8 +30,8 @@ loop-piece-preserved g c =
     record {
       config = c.feed.ensures.config ∙ inv.config;
       keeps = store_then g.S.Store inv.keeps c.feed.ensures.keeps;
-      stands = λ h was old holds. subst (λ (l : List ℕ). StandsOver g.S.Store c.feed.new.self c.feed.new.store (state g.S.Store c.args.store.now.conn).now.schema was old l []) grown
-          (c.feed.ensures.stands h (state g.S.Store c.args.store.now.conn).now.schema was old (stream_of (take i all)) [] (inv.stands (c.feed.ensures.keeps.clean h) was old holds));
+      stands = λ h was old holds. subst (λ (l : List ℕ). StandsOver g.S.Store c.feed.new.self c.feed.new.store (state g.S.Store c.args.store.now.conn).now.schema (having_read was old l)) grown
+          (c.feed.ensures.stands h (state g.S.Store c.args.store.now.conn).now.schema (having_read was old (stream_of (take i all))) (inv.stands (c.feed.ensures.keeps.clean h) was old holds));
       may_end = c.feed.ensures.may_end inv.may_end;
     }
 
@@ -38,7 +39,7 @@ pub returns-clause-read : goal.returns-clause-read
 returns-clause-read g c clean was old holds =
     let inv = c.loop-piece.invariant in
     subst (λ (l : List (Vec ℕ Global)). HasRead g.S.Store c.args.config.limit c.args.store.now c.loop-piece.store was old (stream_of l) c.finish.result) (take_all c.loop-piece.piece-index c.args.pieces.now c.loop-piece-test.false)
-    (read_all g.S.Store c.loop-piece.session c.args.store.now c.loop-piece.store c.args.config.limit was old (stream_of (take c.loop-piece.piece-index c.args.pieces.now)) [] c.finish.result (ap (λ s. s.limit) inv.config) inv.keeps.following c.finish.ensures.end
+    (read_all g.S.Store c.loop-piece.session c.args.store.now c.loop-piece.store c.args.config.limit (having_read was old (stream_of (take c.loop-piece.piece-index c.args.pieces.now))) c.finish.result (ap (λ s. s.limit) inv.config) inv.keeps.following c.finish.ensures.end
     (inv.stands clean was old holds))
 
 pub returns-clause-may_end : goal.returns-clause-may_end

@@ -3,7 +3,7 @@ use Rattle.std.proofs.Common.{if◌then◌else◌}
 use Rattle.std.proofs.KnownBytes.{Appends-kept, Keeps-trans}
 use Rattle.replica.specs.declared.following.Turn.{Turn}
 use Rattle.replica.specs.declared.following.Turn.TheVariants as turn
-use Rattle.replica.specs.Follow.{Follows, reads_failed, failed_reads_of, failed_writes_of}
+use Rattle.replica.specs.Follow.{Follows, exchange, reads_failed, failed_reads_of, failed_writes_of}
 use Rattle.replica.proofs.ObserverEnds.{asked, not_of_stream}
 use Rattle.replica.proofs.StreamFailures.{none_failed, failed_later, failed_none, counted_none}
 use Rattle.replica.proofs.Advance.{none_after}
@@ -15,16 +15,16 @@ pub returns-then-is_done-clause-follows : goal.returns-then-is_done-clause-follo
 returns-then-is_done-clause-follows g c clean was old holds =
     let session = c.new-session.result in
     let reason : (end_of session).reason ≡ EndOfInput = ap (λ (v : Option Ended). (unwrap_or v (record { reason = EndOfInput; at = session.at; applied = session.applied })).reason) c.new-session.ensures.ended in
-    follows-same g.S.Store session.config c.args.config c.args.store.now c.args.store.now was old (g.T.Read.remaining c.args.stream.now.stream) (g.T.Read.remaining c.args.stream.now.stream) (g.T.Write.contents c.args.stream.now.stream) (g.T.Write.contents c.args.stream.now.stream) (reported_as Until (end_of session)) c.ended_with.result c.new-session.ensures.config (sym c.ended_with.ensures)
-    (follows-until g.S.Store session c.args.store.now c.args.store.now was old (g.T.Read.remaining c.args.stream.now.stream) (g.T.Read.remaining c.args.stream.now.stream) (g.T.Write.contents c.args.stream.now.stream) (g.T.Write.contents c.args.stream.now.stream) refl
+    follows-same g.S.Store session.config c.args.config c.args.store.now c.args.store.now was old (exchange g.T.Read.remaining g.T.Write.contents c.args.stream.now.stream c.args.stream.now.stream) (reported_as Until (end_of session)) c.ended_with.result c.new-session.ensures.config (sym c.ended_with.ensures)
+    (follows-until g.S.Store session c.args.store.now c.args.store.now was old (exchange g.T.Read.remaining g.T.Write.contents c.args.stream.now.stream c.args.stream.now.stream) refl
     (following-begins g.S.Store (λ h db is_open may. g.met.S.Store.settled h.store db is_open may) session c.args.store.now was old (g.T.Read.remaining c.args.stream.now.stream) (g.T.Write.contents c.args.stream.now.stream) c.new-session.ensures.ended holds (c.new-session.ensures.stands c.args.store.now.following was old)) reason)
 
 pub returns-in_default-clause-follows : goal.returns-in_default-clause-follows
 returns-in_default-clause-follows g c clean was old holds =
     let session = c.new-session.result in
     let reason : (end_of session).reason ≡ EndOfInput = ap (λ (v : Option Ended). (unwrap_or v (record { reason = EndOfInput; at = session.at; applied = session.applied })).reason) c.new-session.ensures.ended in
-    follows-same g.S.Store session.config c.args.config c.args.store.now c.args.store.now was old (g.T.Read.remaining c.args.stream.now.stream) (g.T.Read.remaining c.args.stream.now.stream) (g.T.Write.contents c.args.stream.now.stream) (g.T.Write.contents c.args.stream.now.stream) (reported_as Memory (end_of session)) c.ended_with-in_default.result c.new-session.ensures.config (sym c.ended_with-in_default.ensures)
-    (follows-memory g.S.Store session c.args.store.now c.args.store.now was old (g.T.Read.remaining c.args.stream.now.stream) (g.T.Read.remaining c.args.stream.now.stream) (g.T.Write.contents c.args.stream.now.stream) (g.T.Write.contents c.args.stream.now.stream) refl
+    follows-same g.S.Store session.config c.args.config c.args.store.now c.args.store.now was old (exchange g.T.Read.remaining g.T.Write.contents c.args.stream.now.stream c.args.stream.now.stream) (reported_as Memory (end_of session)) c.ended_with-in_default.result c.new-session.ensures.config (sym c.ended_with-in_default.ensures)
+    (follows-memory g.S.Store session c.args.store.now c.args.store.now was old (exchange g.T.Read.remaining g.T.Write.contents c.args.stream.now.stream c.args.stream.now.stream) refl
     (following-begins g.S.Store (λ h db is_open may. g.met.S.Store.settled h.store db is_open may) session c.args.store.now was old (g.T.Read.remaining c.args.stream.now.stream) (g.T.Write.contents c.args.stream.now.stream) c.new-session.ensures.ended holds (c.new-session.ensures.stands c.args.store.now.following was old)) reason)
 
 pub turns-init : goal.turns-init
@@ -45,17 +45,17 @@ pub returns-then-sends_no_more-clause-follows : goal.returns-then-sends_no_more-
 returns-then-sends_no_more-clause-follows g c clean was old holds =
     let session = c.turns.session in
     let inv = c.turns.invariant in
-    follows-same g.S.Store session.config c.args.config c.args.store.now c.turns.store was old (g.T.Read.remaining c.args.stream.now.stream) (g.T.Read.remaining c.turns.stream.stream) (g.T.Write.contents c.args.stream.now.stream) (g.T.Write.contents c.turns.stream.stream) (end_of session) c.finish.result inv.config (sym c.finish.ensures.end)
-    (follows-sends_no_more g.S.Store session c.args.store.now c.turns.store was old (g.T.Read.remaining c.args.stream.now.stream) (g.T.Read.remaining c.turns.stream.stream) (g.T.Write.contents c.args.stream.now.stream) (g.T.Write.contents c.turns.stream.stream) inv.keeps.store.following (inv.following clean was old holds) (sym c.sends_no_more.ensures ∙ c.if-sends_no_more.true) inv.may_end)
+    follows-same g.S.Store session.config c.args.config c.args.store.now c.turns.store was old (exchange g.T.Read.remaining g.T.Write.contents c.args.stream.now.stream c.turns.stream.stream) (end_of session) c.finish.result inv.config (sym c.finish.ensures.end)
+    (follows-sends_no_more g.S.Store session c.args.store.now c.turns.store was old (exchange g.T.Read.remaining g.T.Write.contents c.args.stream.now.stream c.turns.stream.stream) inv.keeps.store.following (inv.following clean was old holds) (sym c.sends_no_more.ensures ∙ c.if-sends_no_more.true) inv.may_end)
 
 pub returns-then-not-send_pending-clause-follows : goal.returns-then-not-send_pending-clause-follows
 returns-then-not-send_pending-clause-follows g c clean was old holds =
     let session = c.turns.session in
     let inv = c.turns.invariant in
     let sent = c.send_pending.ensures.sent in
-    follows-same g.S.Store session.config c.args.config c.args.store.now c.turns.store was old (g.T.Read.remaining c.args.stream.now.stream) (g.T.Read.remaining c.send_pending.new.stream.stream) (g.T.Write.contents c.args.stream.now.stream) (g.T.Write.contents c.send_pending.new.stream.stream) (reported_as WriteFailed (end_of session)) c.ended_with-then-not-send_pending.result inv.config
+    follows-same g.S.Store session.config c.args.config c.args.store.now c.turns.store was old (exchange g.T.Read.remaining g.T.Write.contents c.args.stream.now.stream c.send_pending.new.stream.stream) (reported_as WriteFailed (end_of session)) c.ended_with-then-not-send_pending.result inv.config
     (sym (c.ended_with-then-not-send_pending.ensures ∙ ap (λ (e : Ended). reported_as WriteFailed e) sent.4.end))
-    (follows-write_failed g.S.Store session c.args.store.now c.turns.store was old (g.T.Read.remaining c.args.stream.now.stream) (g.T.Read.remaining c.turns.stream.stream) (g.T.Write.contents c.args.stream.now.stream) (g.T.Write.contents c.turns.stream.stream) inv.keeps.store.following (inv.following clean was old holds)
+    (follows-write_failed g.S.Store session c.args.store.now c.turns.store was old (exchange g.T.Read.remaining g.T.Write.contents c.args.stream.now.stream c.turns.stream.stream) inv.keeps.store.following (inv.following clean was old holds)
     c.send_pending.new.session (g.T.Read.remaining c.send_pending.new.stream.stream) (g.T.Write.contents c.send_pending.new.stream.stream) sent.0 sent.1 c.send_pending.ensures.apart sent.2 sent.4 (sym c.sends_no_more.ensures ∙ c.if-sends_no_more.false) inv.may_end)
 
 pub returns-then-is_some-clause-follows : goal.returns-then-is_some-clause-follows
@@ -66,10 +66,10 @@ returns-then-is_some-clause-follows g c clean was old holds =
     let after = c.send_pending.new.session in
     let f = inv.following clean was old holds in
     let some : is_some after.ended ≡ true = some_after c.ended.result after.ended c.ended.ensures ∙ sym c.is_some.ensures ∙ c.if-is_some.true in
-    let s = over-out g.S.Store session after c.turns.store (database g.S.Store c.args.store.now).now.schema was old f.read f.sent (sent.0 ++ sent.1) sent.4 f.stands in
-    let early : (end_of session).reason ≢ EndOfInput = λ h. ended_early after c.turns.store.following was s.is old s.now f.read (f.sent ++ (sent.0 ++ sent.1)) some s.stands (ap (λ (e : Ended). e.reason) sent.4.end ∙ h) in
-    follows-same g.S.Store session.config c.args.config c.args.store.now c.turns.store was old (g.T.Read.remaining c.args.stream.now.stream) (g.T.Read.remaining c.send_pending.new.stream.stream) (g.T.Write.contents c.args.stream.now.stream) (g.T.Write.contents c.send_pending.new.stream.stream) (end_of session) c.finish-then-is_some.result inv.config (sym (c.finish-then-is_some.ensures.end ∙ sent.4.end))
-    (follows-ended g.S.Store session c.args.store.now c.turns.store was old (g.T.Read.remaining c.args.stream.now.stream) (g.T.Read.remaining c.turns.stream.stream) (g.T.Write.contents c.args.stream.now.stream) (g.T.Write.contents c.turns.stream.stream) inv.keeps.store.following f
+    let s = over-out g.S.Store session after c.turns.store (database g.S.Store c.args.store.now).now.schema (record { was = was; old = old; read = f.read; sent = f.sent }) (sent.0 ++ sent.1) sent.4 f.stands in
+    let early : (end_of session).reason ≢ EndOfInput = λ h. ended_early after c.turns.store.following (record { was = was; old = old; read = f.read; sent = f.sent ++ (sent.0 ++ sent.1) }) s.is s.now some s.stands (ap (λ (e : Ended). e.reason) sent.4.end ∙ h) in
+    follows-same g.S.Store session.config c.args.config c.args.store.now c.turns.store was old (exchange g.T.Read.remaining g.T.Write.contents c.args.stream.now.stream c.send_pending.new.stream.stream) (end_of session) c.finish-then-is_some.result inv.config (sym (c.finish-then-is_some.ensures.end ∙ sent.4.end))
+    (follows-ended g.S.Store session c.args.store.now c.turns.store was old (exchange g.T.Read.remaining g.T.Write.contents c.args.stream.now.stream c.turns.stream.stream) inv.keeps.store.following f
     after (g.T.Read.remaining c.send_pending.new.stream.stream) (g.T.Write.contents c.send_pending.new.stream.stream) sent.0 sent.1 c.send_pending.ensures.apart sent.2 sent.4 (sent.3 c.if-not-send_pending.false) inv.may_end (λ h. absurd (early h)))
 
 pub read_piece-requires-clause-going : goal.read_piece-requires-clause-going
@@ -98,10 +98,10 @@ turns-preserved g c =
       may = may;
       following = λ clean was old holds.
           let f = inv.following (c.read_piece.ensures.keeps.store.clean clean) was old holds in
-          let sent_f = following-sent g.S.Store session c.args.store.now c.turns.store was old (g.T.Read.remaining c.args.stream.now.stream) (g.T.Read.remaining c.turns.stream.stream) (g.T.Write.contents c.args.stream.now.stream) (g.T.Write.contents c.turns.stream.stream) inv.keeps.store.following f
+          let sent_f = following-sent g.S.Store session c.args.store.now c.turns.store was old (exchange g.T.Read.remaining g.T.Write.contents c.args.stream.now.stream c.turns.stream.stream) inv.keeps.store.following f
           after (g.T.Read.remaining c.send_pending.new.stream.stream) (g.T.Write.contents c.send_pending.new.stream.stream) sent.0 sent.1 c.send_pending.ensures.apart sent.2 sent.4 (sent.3 c.if-not-send_pending.false) in
-          following-read g.S.Store after c.read_piece.new.session c.args.store.now c.turns.store c.read_piece.new.store was old (g.T.Read.remaining c.args.stream.now.stream) (g.T.Read.remaining c.send_pending.new.stream.stream) (g.T.Read.remaining c.read_piece.new.stream.stream) (g.T.Write.contents c.args.stream.now.stream) (g.T.Write.contents c.send_pending.new.stream.stream) (g.T.Write.contents c.read_piece.new.stream.stream) read.0
-          sent_f inv.keeps.store.following going (c.read_piece.ensures.config) (omega (arith, read.1, long)) read.2 c.read_piece.ensures.apart (read.3 clean (database g.S.Store c.args.store.now).now.schema was old sent_f.read sent_f.sent sent_f.stands);
+          following-read g.S.Store after c.read_piece.new.session c.args.store.now c.turns.store c.read_piece.new.store was old (exchange g.T.Read.remaining g.T.Write.contents c.args.stream.now.stream c.send_pending.new.stream.stream) (g.T.Read.remaining c.read_piece.new.stream.stream) (g.T.Write.contents c.read_piece.new.stream.stream) read.0
+          sent_f inv.keeps.store.following going (c.read_piece.ensures.config) (omega (arith, read.1, long)) read.2 c.read_piece.ensures.apart (read.3 clean (database g.S.Store c.args.store.now).now.schema (record { was = was; old = old; read = sent_f.read; sent = sent_f.sent }) sent_f.stands);
     }
 
 pub returns-in-AtEnd-clause-follows : goal.returns-in-AtEnd-clause-follows
@@ -113,10 +113,10 @@ returns-in-AtEnd-clause-follows g c clean was old holds =
     let not_read : c.read_piece.result ≢ turn.Read = λ h. let bad : turn.AtEnd ≡ turn.Read = sym c.in-AtEnd.is ∙ h in cc in
     let still = c.read_piece.ensures.still not_read in
     let f = inv.following (c.read_piece.ensures.keeps.store.clean clean) was old holds in
-    subst (λ s. Follows g.S.Store c.args.config c.args.store.now s was old (g.T.Read.remaining c.args.stream.now.stream) (g.T.Read.remaining c.read_piece.new.stream.stream) (g.T.Write.contents c.args.stream.now.stream) (g.T.Write.contents c.read_piece.new.stream.stream) c.finish-in-AtEnd.result) (sym still.1)
-    (follows-same g.S.Store session.config c.args.config c.args.store.now c.turns.store was old (g.T.Read.remaining c.args.stream.now.stream) (g.T.Read.remaining c.read_piece.new.stream.stream) (g.T.Write.contents c.args.stream.now.stream) (g.T.Write.contents c.read_piece.new.stream.stream) (end_of session) c.finish-in-AtEnd.result inv.config
+    subst (λ s. Follows g.S.Store c.args.config c.args.store.now s was old (exchange g.T.Read.remaining g.T.Write.contents c.args.stream.now.stream c.read_piece.new.stream.stream) c.finish-in-AtEnd.result) (sym still.1)
+    (follows-same g.S.Store session.config c.args.config c.args.store.now c.turns.store was old (exchange g.T.Read.remaining g.T.Write.contents c.args.stream.now.stream c.read_piece.new.stream.stream) (end_of session) c.finish-in-AtEnd.result inv.config
     (sym (c.finish-in-AtEnd.ensures.end ∙ ap (λ (s : Session). end_of s) still.0 ∙ sent.4.end))
-    (follows-ended g.S.Store session c.args.store.now c.turns.store was old (g.T.Read.remaining c.args.stream.now.stream) (g.T.Read.remaining c.turns.stream.stream) (g.T.Write.contents c.args.stream.now.stream) (g.T.Write.contents c.turns.stream.stream) inv.keeps.store.following f
+    (follows-ended g.S.Store session c.args.store.now c.turns.store was old (exchange g.T.Read.remaining g.T.Write.contents c.args.stream.now.stream c.turns.stream.stream) inv.keeps.store.following f
     after (g.T.Read.remaining c.read_piece.new.stream.stream) (g.T.Write.contents c.read_piece.new.stream.stream) sent.0 sent.1 (Keeps-trans (g.T.Read.remaining c.turns.stream.stream) (g.T.Read.remaining c.send_pending.new.stream.stream) (g.T.Read.remaining c.read_piece.new.stream.stream) c.send_pending.ensures.apart still.3) (Appends-kept (g.T.Write.contents c.turns.stream.stream) (g.T.Write.contents c.send_pending.new.stream.stream) (g.T.Write.contents c.read_piece.new.stream.stream) sent.0 sent.2 c.read_piece.ensures.apart)
     sent.4 (sent.3 c.if-not-send_pending.false) inv.may_end (λ h. c.read_piece.ensures.at_end c.in-AtEnd.is)))
 
@@ -132,10 +132,10 @@ returns-in-Failed-clause-follows g c clean was old holds =
     let none : after.ended ≡ None = none_after after.ended (some_after c.ended.result after.ended c.ended.ensures ∙ sym c.is_some.ensures ∙ c.if-is_some.false) in
     let at_end : (end_of session).reason ≡ EndOfInput =
     ap (λ (e : Ended). e.reason) (sym sent.4.end ∙ ap (λ (v : Option Ended). unwrap_or v (record { reason = EndOfInput; at = after.at; applied = after.applied })) none) in
-    subst (λ s. Follows g.S.Store c.args.config c.args.store.now s was old (g.T.Read.remaining c.args.stream.now.stream) (g.T.Read.remaining c.read_piece.new.stream.stream) (g.T.Write.contents c.args.stream.now.stream) (g.T.Write.contents c.read_piece.new.stream.stream) c.ended_with-in-Failed.result) (sym still.1)
-    (follows-same g.S.Store session.config c.args.config c.args.store.now c.turns.store was old (g.T.Read.remaining c.args.stream.now.stream) (g.T.Read.remaining c.read_piece.new.stream.stream) (g.T.Write.contents c.args.stream.now.stream) (g.T.Write.contents c.read_piece.new.stream.stream) (reported_as ReadFailed (end_of session)) c.ended_with-in-Failed.result inv.config
+    subst (λ s. Follows g.S.Store c.args.config c.args.store.now s was old (exchange g.T.Read.remaining g.T.Write.contents c.args.stream.now.stream c.read_piece.new.stream.stream) c.ended_with-in-Failed.result) (sym still.1)
+    (follows-same g.S.Store session.config c.args.config c.args.store.now c.turns.store was old (exchange g.T.Read.remaining g.T.Write.contents c.args.stream.now.stream c.read_piece.new.stream.stream) (reported_as ReadFailed (end_of session)) c.ended_with-in-Failed.result inv.config
     (sym (c.ended_with-in-Failed.ensures ∙ ap (λ (s : Session). reported_as ReadFailed (end_of s)) still.0 ∙ ap (λ (e : Ended). reported_as ReadFailed e) sent.4.end))
-    (follows-read_failed g.S.Store session c.args.store.now c.turns.store was old (g.T.Read.remaining c.args.stream.now.stream) (g.T.Read.remaining c.turns.stream.stream) (g.T.Write.contents c.args.stream.now.stream) (g.T.Write.contents c.turns.stream.stream) inv.keeps.store.following f
+    (follows-read_failed g.S.Store session c.args.store.now c.turns.store was old (exchange g.T.Read.remaining g.T.Write.contents c.args.stream.now.stream c.turns.stream.stream) inv.keeps.store.following f
     after (g.T.Read.remaining c.read_piece.new.stream.stream) (g.T.Write.contents c.read_piece.new.stream.stream) sent.0 sent.1 (Keeps-trans (g.T.Read.remaining c.turns.stream.stream) (g.T.Read.remaining c.send_pending.new.stream.stream) (g.T.Read.remaining c.read_piece.new.stream.stream) c.send_pending.ensures.apart still.3) (Appends-kept (g.T.Write.contents c.turns.stream.stream) (g.T.Write.contents c.send_pending.new.stream.stream) (g.T.Write.contents c.read_piece.new.stream.stream) sent.0 sent.2 c.read_piece.ensures.apart)
     sent.4 (sent.3 c.if-not-send_pending.false) at_end))
 

@@ -1,5 +1,5 @@
 use Rattle.replica.proofs.Names.{◌≡◌, Bool, length, [], HasCleanDisk, Content, HoldsAs, database, IsNoStreamFailure, end_of, MayEnd, HaveFailed, KeepsObserved}
-use Rattle.replica.specs.Follow.{IsFollowing, turns_left}
+use Rattle.replica.specs.Follow.{IsFollowing, exchange, turns_left}
 use Rattle.replica.proofs.following.follow_observed.Given as goal
 
 abbrev pub invariant-turns : goal.invariant-turns
@@ -14,7 +14,7 @@ invariant-turns g l = record {
   may : MayEnd (end_of l.session).reason (g.W.Observer.account l.observer);
   following : HasCleanDisk (database g.S.Store l.store) → (was : Bool) (old : Content) → HoldsAs g.S.Store was old l.fn.store
       → IsFollowing g.S.Store l.session l.fn.store l.store was old
-      (g.T.Read.remaining l.fn.stream.stream) (g.T.Read.remaining l.stream.stream) (g.T.Write.contents l.fn.stream.stream) (g.T.Write.contents l.stream.stream);
+      (exchange g.T.Read.remaining g.T.Write.contents l.fn.stream.stream l.stream.stream);
 }
 
 abbrev pub decreases-turns : goal.decreases-turns

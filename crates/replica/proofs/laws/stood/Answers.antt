@@ -13,14 +13,14 @@ pub returns-clause-store : goal.returns-clause-store
 returns-clause-store c = stood.store_of c.args._session.now
 
 pub returns-clause-state : goal.returns-clause-state
-returns-clause-state c names was is old now b o s =
+returns-clause-state c names pos is now s =
     let session = c.args._session.now in
-    reported.begun_of session.config.limit names was old b now (end_of session) (stood.conn_of session names was is old now b o s)
+    reported.begun_of session.config.limit names pos.was pos.old pos.read now (end_of session) (stood.conn_of session names pos is now s)
 
 pub returns-clause-reason : goal.returns-clause-reason
-returns-clause-reason c names was is old now b o s h =
+returns-clause-reason c names pos is now s h =
     let session = c.args._session.now in
-    reported.end_by session.config.limit names was old b now (end_of session) (stood.conn_of session names was is old now b o s) h
+    reported.end_by session.config.limit names pos.was pos.old pos.read now (end_of session) (stood.conn_of session names pos is now s) h
 
 pub returns-clause-ended : goal.returns-clause-ended
 returns-clause-ended c = reported.ended_where c.args._session.now

@@ -6,8 +6,8 @@ use Rattle.replica.proofs.Keeps.{keeps_same, keeps_then}
 use Rattle.replica.proofs.session.Session.feed_observed.Goals as goal
 
 pub returns-then-is_some-clause-stands : goal.returns-then-is_some-clause-stands
-returns-then-is_some-clause-stands g c clean schema was old b o s =
-    over-append g.S.Store c.args.store.now schema was old b o c.args.self.now c.args.bytes.now (sym c.is_some.ensures ∙ c.if-is_some.true) s
+returns-then-is_some-clause-stands g c clean schema pos s =
+    over-append g.S.Store c.args.store.now schema pos c.args.self.now c.args.bytes.now (sym c.is_some.ensures ∙ c.if-is_some.true) s
 
 pub loop-used-init : goal.loop-used-init
 loop-used-init g c = record {
