@@ -13,7 +13,7 @@ use Rattle.store.specs.Store.{Holds, Keeps}
 use Rattle.replica.specs.declared.loading.LoadEnd.{LoadEnd}
 use Rattle.replica.specs.declared.loading.LoadEnd.TheVariants.{Changed, Refused}
 use Rattle.replica.specs.declared.loading.Unloadable.{Unloadable}
-use Rattle.replica.specs.Copies.{IsUnloadable, MayNotLoad, with_first}
+use Rattle.replica.specs.Copies.{Copy, IsUnloadable, MayNotLoad, with_first}
 use Rattle.replica.specs.Loading.{JudgesCopy, HasLoaded, IsLedByLoad}
 use Rattle.replica.specs.LoadFile.{LoadsTo, IsNotedOfLoad}
 use Rattle.replica.proofs.CaptureFiles.{clean_before_closing, noted_of_files}
@@ -72,32 +72,32 @@ module _ {S : Type 0} (g : StoreGhosts S) where
   }
 
 module _ {D : Type 0} (g : Ghosts D) (names : Names) (old : Content) (opened after : Store (FileStore D g) over_files) where
-  pub loaded_into : {E : Type 0} (only : Names) (left : Supply) (ids : Ids) (first : Id) (tables : Names) (applied : ℕ) (end : LoadEnd E) (closed : Result (Files D) (Error × FileStore D g))
+  pub loaded_into : {E : Type 0} (only : Names) (copy : Copy) (applied : ℕ) (end : LoadEnd E) (closed : Result (Files D) (Error × FileStore D g))
       → after.following ≡ opened.following → (HasCleanDisk (database over_files after) → Holds over_files opened old × (opened.following ≡ names))
-      → (HasCleanDisk (database over_files after) → (content : Content) → Holds over_files opened content → HasLoaded over_files opened.following after content ids first tables left applied end)
+      → (HasCleanDisk (database over_files after) → (content : Content) → Holds over_files opened content → HasLoaded over_files opened.following after content copy applied end)
       → IfOk closed (λ files. AreClean g files.log files.db → IsCopied after.conn files)
       → IfErr closed (λ e. IsClosed after.conn e.1 × (IsClean (view e.1) → FailsToClose after.conn e.1 e.0))
-      → LoadsTo only left names old ids first tables applied end closed
-  loaded_into {E} only left ids first tables applied (Changed end) closed same opens loads copied failed = (
+      → LoadsTo only names old copy applied end closed
+  loaded_into {E} only copy applied (Changed end) closed same opens loads copied failed = (
     (λ honest.
         let clean = clean_before_closing after.conn closed copied failed honest in
         let o = opens clean in
-        (subst (λ n. HasLoaded over_files {E = E} n after old ids first tables left applied (Changed end)) o.1 (loads clean old o.0)).0),
-    changed_into g names old opened after left (with_first ids first) applied end closed same opens (λ clean content holds. (loads clean content holds).1) copied failed,
+        (subst (λ n. HasLoaded over_files {E = E} n after old copy applied (Changed end)) o.1 (loads clean old o.0)).0),
+    changed_into g names old opened after copy.left (with_first copy.ids copy.first) applied end closed same opens (λ clean content holds. (loads clean content holds).1) copied failed,
   )
-  loaded_into {E} only left ids first tables applied (Refused why) closed same opens loads copied failed = (
+  loaded_into {E} only copy applied (Refused why) closed same opens loads copied failed = (
     (λ honest.
         let clean = clean_before_closing after.conn closed copied failed honest in
         let o = opens clean in
-        (subst (λ n. HasLoaded over_files {E = E} n after old ids first tables left applied (Refused why)) o.1 (loads clean old o.0)).0),
+        (subst (λ n. HasLoaded over_files {E = E} n after old copy applied (Refused why)) o.1 (loads clean old o.0)).0),
     keeps_stayed g names old opened after only old closed same opens (λ clean holds. (loads clean old holds).1) copied failed,
   )
 
-  pub noted_of_load : SeenMayStay g → {E : Type 0} (ids : Ids) (first : Id) (t0 t1 : Account) (end : LoadEnd E) (closed : Result (Files D) (Error × FileStore D g))
+  pub noted_of_load : SeenMayStay g → {E : Type 0} (copy : Copy) (t0 t1 : Account) (end : LoadEnd E) (closed : Result (Files D) (Error × FileStore D g))
       → after.following ≡ opened.following → (HasCleanDisk (database over_files after) → Holds over_files opened old × (opened.following ≡ names))
-      → (HasCleanDisk (database over_files after) → Holds over_files opened old → IsLedByLoad over_files opened after old ids first t0 t1 end)
+      → (HasCleanDisk (database over_files after) → Holds over_files opened old → IsLedByLoad over_files opened after old copy t0 t1 end)
       → IfOk closed (λ files. AreClean g files.log files.db → IsCopied after.conn files)
       → IfErr closed (λ e. IsClosed after.conn e.1 × (IsClean (view e.1) → FailsToClose after.conn e.1 e.0))
-      → IsNotedOfLoad names old ids first t0 t1 end closed
-  noted_of_load still ids first t0 t1 (Changed end) closed same opens notes copied failed = λ begun. noted_of_files g names old opened after still (adopted old (with_first ids first)) t0 t1 [] closed same opens (λ clean holds. notes clean holds begun) copied failed
-  noted_of_load still ids first t0 t1 (Refused why) closed same opens notes copied failed = tt
+      → IsNotedOfLoad names old copy t0 t1 end closed
+  noted_of_load still copy t0 t1 (Changed end) closed same opens notes copied failed = λ begun. noted_of_files g names old opened after still (adopted old (with_first copy.ids copy.first)) t0 t1 [] closed same opens (λ clean holds. notes clean holds begun) copied failed
+  noted_of_load still copy t0 t1 (Refused why) closed same opens notes copied failed = tt

@@ -3,13 +3,27 @@
 -- Version 5"; MySQL Reference Manual, "Replication and Binary Logging Options and Variables" (server_uuid).
 use Rattle.std.specs.Prelude.{◌≡◌, ◌⊎◌, ℕ, ◌/◌, ◌==◌, ◌≤◌, Bool, true, false, List, slice_index}
 use Rattle.std.specs.FinSet as set
-use Rattle.gtid.specs.Identifier.{Id, Ids}
+use Rattle.gtid.specs.Identifier.{Id, Ids, id}
 use Rattle.binlog.specs.Cell.{CellValue}
 use Rattle.binlog.specs.Filter.{Names, admits}
 use Rattle.store.specs.State.{Content, row_of}
 use Rattle.store.specs.Faults.{IsFailure}
+use Rattle.replica.specs.Given.{Supply}
+use Rattle.replica.specs.declared.loading.FirstCopy.{FirstCopy}
 use Rattle.replica.specs.declared.loading.Unloadable.{Unloadable}
 use Rattle.replica.specs.declared.loading.Unloadable.TheVariants.{OtherSet, LeftOut, HasRows, Failed}
+
+-- A copy that is loaded: what is known of its transactions that are still to be given, the set at which its rows were read, the first
+-- GTID of its source, and the tables that it has rows of.
+pub record Copy : Type 1 where
+  pub left : Supply
+  pub ids : Ids
+  pub first : Id
+  pub tables : Names
+
+-- the copy whose transactions are given so
+abbrev pub copy_of : Supply → FirstCopy → Copy
+copy_of left copy = record { left = left; ids = copy.gtids.now; first = id copy.first; tables = copy.tables.now }
 
 -- whether the UUID is of version 5
 abbrev pub is_of_copy : List ℕ → Bool

@@ -14,12 +14,11 @@ use Rattle.replica.specs.declared.loading.Found.TheVariants.{Row, Memory}
 use Rattle.replica.specs.declared.loading.LoadEnd.{LoadEnd}
 use Rattle.replica.specs.declared.loading.LoadEnd.TheVariants.{Changed, Refused}
 use Rattle.replica.specs.declared.loading.Unloadable.{Unloadable}
-use Rattle.replica.specs.Given.{Supply}
 use Rattle.replica.specs.Over.{HasStayed}
 use Rattle.replica.specs.Noted.{Account, IsLedSinceOpening}
 use Rattle.replica.specs.Change.{IsAdopted}
 use Rattle.replica.specs.Changing.{HasChanged}
-use Rattle.replica.specs.Copies.{MayLoad, MayNotLoad, with_first}
+use Rattle.replica.specs.Copies.{Copy, MayLoad, MayNotLoad, with_first}
 
 -- The row is of none of the tables, or is found to be of one.
 abbrev pub IsLookedAt : Names → Entry → Result (Unit {0}) Found → Type 0
@@ -35,11 +34,11 @@ module _ {S : Type 0} (g : Ghosts S) where
   JudgesCopy names content ids first tables new (Err why) = Keeps g new content × MayNotLoad names content ids first tables why
 
   -- The store holds the content that was led to, or keeps the one from before; and this is what a crash leaves.
-  abbrev pub HasLoaded : {E : Type 0} → Names → Store S g → Content → Ids → Id → Names → Supply → ℕ → LoadEnd E → Type 0
-  HasLoaded names store old ids first tables left applied (Changed end) = MayLoad names old ids first tables × HasChanged g names store old (with_first ids first) left applied end
-  HasLoaded names store old ids first tables left applied (Refused why) = MayNotLoad names old ids first tables why × HasStayed g store old (λ left. left ≡ old)
+  abbrev pub HasLoaded : {E : Type 0} → Names → Store S g → Content → Copy → ℕ → LoadEnd E → Type 0
+  HasLoaded names store old copy applied (Changed end) = MayLoad names old copy.ids copy.first copy.tables × HasChanged g names store old (with_first copy.ids copy.first) copy.left applied end
+  HasLoaded names store old copy applied (Refused why) = MayNotLoad names old copy.ids copy.first copy.tables why × HasStayed g store old (λ left. left ≡ old)
 
   -- What was reported since the set was added leads from the content with it to the one that the store holds.
-  abbrev pub IsLedByLoad : {E : Type 0} → Store S g → Store S g → Content → Ids → Id → Account → Account → LoadEnd E → Type 0
-  IsLedByLoad before after old ids first was is (Changed end) = IsAdopted end → IsLedSinceOpening g before after false (adopted old (with_first ids first)) was is []
-  IsLedByLoad before after old ids first was is (Refused why) = Unit {0}
+  abbrev pub IsLedByLoad : {E : Type 0} → Store S g → Store S g → Content → Copy → Account → Account → LoadEnd E → Type 0
+  IsLedByLoad before after old copy was is (Changed end) = IsAdopted end → IsLedSinceOpening g before after false (adopted old (with_first copy.ids copy.first)) was is []
+  IsLedByLoad before after old copy was is (Refused why) = Unit {0}

@@ -2,11 +2,11 @@
 
 ghost use Rattle.std.specs.Prelude.{◌≡◌, true, IfOk, IfErr, IsErr};
 ghost use Rattle.sqlite_wal.specs.Files.{image_at};
-ghost use Rattle.gtid.specs.Identifier.{id};
 ghost use Rattle.binlog.specs.Filter.{Names};
 ghost use Rattle.store.specs.State.{Content};
 ghost use Rattle.store.specs.Entering.{wanted_of, names_for};
 ghost use Rattle.replica.specs.File.{FilesHold, IsTurnedAway, ClosesAs};
+ghost use Rattle.replica.specs.Copies.{copy_of};
 ghost use Rattle.replica.specs.LoadFile.{LoadsFile, IsNotedOfLoad, UnlessLoaded, MayStopLoad};
 
 use crate::deliveries::Deliveries;
@@ -50,8 +50,8 @@ pub fn load_file<P: Start, I: Deliveries + Drop, W: Observer>(
     // all of them, if the end says so. If it may not be loaded, they hold the content of before.
     ensures loads { IfOk result (λ done. (names : Names) (content : Content)
         → FilesHold (names_for (wanted_of only.entry)) names content (image_at P.Start)
-        → LoadsFile (names_for (wanted_of only.entry)) (I.supply deliveries) names content
-        copy.entry.gtids.now (id copy.entry.first) copy.entry.tables.now done) }
+        → LoadsFile (names_for (wanted_of only.entry)) names content
+        (copy_of (I.supply deliveries) copy.entry) done) }
     // Such a database was made for the given tables; any other whose tables are known stood for a content too. Why the files
     // could not be closed is what they met.
     ensures closing { IfOk result (λ done. ClosesAs (wanted_of only.entry) (image_at P.Start)
@@ -62,7 +62,7 @@ pub fn load_file<P: Start, I: Deliveries + Drop, W: Observer>(
     // hold. Files that could not be closed are left with that content, or with one transaction more, which was reported before it.
     ensures notes { IfOk result (λ done. (names : Names) (content : Content)
         → FilesHold (names_for (wanted_of only.entry)) names content (image_at P.Start)
-        → IsNotedOfLoad names content copy.entry.gtids.now (id copy.entry.first)
+        → IsNotedOfLoad names content (copy_of (I.supply deliveries) copy.entry)
         (W.account observer.old) (W.account observer.new) done.end done.closed) }
     // If the copy was refused or the set was not added, nothing was reported.
     ensures unreported { IfOk result (λ done. UnlessLoaded done.end

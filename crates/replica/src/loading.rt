@@ -8,7 +8,7 @@ ghost use Rattle.gtid.specs.Identifier.{id};
 ghost use Rattle.binlog.specs.Filter.{admits};
 ghost use Rattle.store.specs.State.{Content};
 ghost use Rattle.store.specs.Store.{AreOf, Holds, database, names_of};
-ghost use Rattle.replica.specs.Copies.{is_of_copy, AreOfCopies, IsAtSet, AreAdmitted, with_first};
+ghost use Rattle.replica.specs.Copies.{is_of_copy, AreOfCopies, IsAtSet, AreAdmitted, with_first, copy_of};
 ghost use Rattle.replica.specs.Loading.{IsLookedAt, JudgesCopy, HasLoaded, IsLedByLoad};
 ghost use Rattle.replica.specs.LoadFile.{MayStopLoad, UnlessLoaded};
 ghost use Rattle.replica.specs.Keeps.{KeepsStore};
@@ -233,11 +233,10 @@ pub(crate) fn load<S: Alter, I: Deliveries, W: Observer>(
 ) -> (u64, LoadEnd<I::Error>)
     ensures loads { HasCleanDisk (database S.Store store.new) → (old : Content)
         → Holds S.Store store.old old → HasLoaded S.Store (names_of S.Store store.old) store.new
-        old copy.now.gtids.now (id copy.now.first) copy.now.tables.now
-        (I.supply deliveries.old) result.0 result.1 }
+        old (copy_of (I.supply deliveries.old) copy.now) result.0 result.1 }
     ensures notes { HasCleanDisk (database S.Store store.new) → (old : Content)
         → Holds S.Store store.old old → IsLedByLoad S.Store store.old store.new old
-        copy.now.gtids.now (id copy.now.first) (W.account observer.old) (W.account observer.new) result.1 }
+        (copy_of (I.supply deliveries.old) copy.now) (W.account observer.old) (W.account observer.new) result.1 }
     ensures asked { MayStopLoad result.1 (W.account observer.new) }
     ensures unreported { UnlessLoaded result.1 (observer.new ≡ observer.old) }
     ensures keeps { KeepsStore S.Store store.old store.new }
