@@ -5,7 +5,7 @@ use Rattle.sqlite_store.specs.FileStore.{view}
 use Rattle.store.specs.Store.{Holds}
 use Rattle.replica.specs.declared.clearing.ClearEnd.{ClearEnd}
 use Rattle.replica.specs.NotedFile.{IsNotedOfFiles}
-use Rattle.replica.specs.Clear.{ClearsTo, IsLeftOfClear}
+use Rattle.replica.specs.Clear.{TableClear, ClearsTo, IsLeftOfClear}
 use Rattle.replica.specs.Clearing.{HasCleared, IsClearedSinceOpening}
 use Rattle.replica.specs.ClearFile.{ClearsFile}
 use Rattle.replica.proofs.CaptureFiles.{closed_with, may_hold}
@@ -13,16 +13,16 @@ use Rattle.replica.proofs.ClearStore.{as_held}
 use Rattle.replica.proofs.ContentStays.{ends_with}
 
 module _ {D : Type 0} (g : Ghosts D) (names : Names) (old : Content) (opened after : Store (FileStore D g) over_files) where
-  pub cleared_into : (schema table source : List ℕ) (number : ℕ) (end : ClearEnd) (closed : Result (Files D) (Error × FileStore D g))
+  pub cleared_into : (clear : TableClear) (end : ClearEnd) (closed : Result (Files D) (Error × FileStore D g))
       → after.following ≡ opened.following → (HasCleanDisk (database over_files after) → Holds over_files opened old × (opened.following ≡ names))
-      → (HasCleanDisk (database over_files after) → (content : Content) → Holds over_files opened content → HasCleared over_files opened.following schema table source number after content end)
+      → (HasCleanDisk (database over_files after) → (content : Content) → Holds over_files opened content → HasCleared over_files opened.following clear after content end)
       → IfOk closed (λ files. AreClean g files.log files.db → IsCopied after.conn files)
       → IfErr closed (λ e. IsClosed after.conn e.1 × (IsClean (view e.1) → FailsToClose after.conn e.1 e.0))
-      → ClearsFile schema table source number names old (record { end = end; closed = closed })
-  cleared_into schema table source number end closed same opens clears copied failed =
-      ends_with g names old opened after (ClearsTo names schema table source number old end) (IsLeftOfClear names schema table source number old end) closed same opens
+      → ClearsFile clear names old (record { end = end; closed = closed })
+  cleared_into clear end closed same opens clears copied failed =
+      ends_with g names old opened after (ClearsTo names clear old end) (IsLeftOfClear names clear old end) closed same opens
       (λ clean holds.
-      let h = subst (λ n. HasCleared over_files n schema table source number after old end) (opens clean).1 (clears clean old holds) in
+      let h = subst (λ n. HasCleared over_files n clear after old end) (opens clean).1 (clears clean old holds) in
       (h.new, h.clears, h.stays))
       copied failed
 

@@ -22,7 +22,7 @@ use Rattle.replica.specs.declared.clearing.ClearEnd.TheVariants.{Repeat, NotFoll
 use Rattle.replica.specs.declared.clearing.TableRows.{TableRows}
 use Rattle.replica.specs.Noted.{opened}
 use Rattle.replica.specs.Alone.{IsOwnOrHalted}
-use Rattle.replica.specs.Clear.{IsCleared, is_in_table, IsToBeCleared, MayEndClear}
+use Rattle.replica.specs.Clear.{TableClear, IsCleared, is_in_table, IsToBeCleared, MayEndClear}
 use Rattle.replica.specs.Clearing.{deletes_of, AreDeletesOf, AppendsDeletes, TakesRow, gathered_of, end_by, ListsDeletes, HasCleared, IsClearedSinceOpening}
 use Rattle.replica.proofs.RowDeletes.{others_stay, all_gone, none_refused, as_many}
 use Rattle.replica.proofs.Notices.{weaker_leaves, since_through}
@@ -69,14 +69,14 @@ all_taken (e ∷ es) v w folds =
 
 -- ---- What a transaction of deletes comes to.
 
-module _ (names : Names) (schema table source : List ℕ) (number : ℕ) (old : Content) (changes : List ChangeValue) (are : AreDeletesOf schema table old.rows changes) (followed : admits names schema table ≡ true) where
-  is_cleared : (new : Content) → HasOutcome names old (record { source = source; number = number; changes = changes }) (done new) → IsCleared schema table source number old new
+module _ (names : Names) (clear : TableClear) (old : Content) (changes : List ChangeValue) (are : AreDeletesOf clear.schema clear.table old.rows changes) (followed : admits names clear.schema clear.table ≡ true) where
+  is_cleared : (new : Content) → HasOutcome names old (record { source = clear.source; number = clear.number; changes = changes }) (done new) → IsCleared clear old new
   is_cleared new outcome =
-      let all : AreDone names (flat_map (deletes_of schema table) are.entries) old.rows new.rows = subst (λ cs. AreDone names cs old.rows new.rows) are.changes_are outcome.1 in
+      let all : AreDone names (flat_map (deletes_of clear.schema clear.table) are.entries) old.rows new.rows = subst (λ cs. AreDone names cs old.rows new.rows) are.changes_are outcome.1 in
       record {
         executed = outcome.2;
-        gone = all_gone names schema table followed old.rows new.rows are.entries are.lists all;
-        others = others_stay names schema table followed are.entries old.rows new.rows all;
+        gone = all_gone names clear.schema clear.table followed old.rows new.rows are.entries are.lists all;
+        others = others_stay names clear.schema clear.table followed are.entries old.rows new.rows all;
       }
 
 -- ---- What is asked before.
@@ -206,32 +206,32 @@ module _ {S : Type 0} (g : Ghosts S) (settled : (h : Held S) (db : Trees) → Is
       subst (λ r. ListsDeletes g schema table content after r) (sym gathers) (lists_by schema table before after content v w listed empty schema_is table_is same it crash)
 
   -- nothing is done
-  pub repeats : (names : Names) (schema table source : List ℕ) (number : ℕ) (store : Store S g) (old : Content) → set.contains old.executed (source, number) ≡ true → Holds g store old → HasCleared g names schema table source number store old Repeat
-  repeats names schema table source number store old known holds = record { new = old; clears = (known, refl); stays = stays_whole store old _ (inl refl) holds }
+  pub repeats : (names : Names) (clear : TableClear) (store : Store S g) (old : Content) → set.contains old.executed (clear.source, clear.number) ≡ true → Holds g store old → HasCleared g names clear store old Repeat
+  repeats names clear store old known holds = record { new = old; clears = (known, refl); stays = stays_whole store old _ (inl refl) holds }
 
-  pub not_followed : (names : Names) (schema table source : List ℕ) (number : ℕ) (store : Store S g) (old : Content) → set.contains old.executed (source, number) ≡ false → admits names schema table ≡ false → Holds g store old → HasCleared g names schema table source number store old NotFollowed
-  not_followed names schema table source number store old fresh left_out holds = record { new = old; clears = (fresh, left_out, refl); stays = stays_whole store old _ (inl refl) holds }
+  pub not_followed : (names : Names) (clear : TableClear) (store : Store S g) (old : Content) → set.contains old.executed (clear.source, clear.number) ≡ false → admits names clear.schema clear.table ≡ false → Holds g store old → HasCleared g names clear store old NotFollowed
+  not_followed names clear store old fresh left_out holds = record { new = old; clears = (fresh, left_out, refl); stays = stays_whole store old _ (inl refl) holds }
 
-  pub not_listed : (names : Names) (schema table source : List ℕ) (number : ℕ) (store : Store S g) (old : Content) (cause : StoreFault) → IsToBeCleared names schema table source number old → IsFailure cause × HasStayed g store old (λ left. left ≡ old)
-      → HasCleared g names schema table source number store old (Failed cause)
-  not_listed names schema table source number store old cause is it = record { new = old; clears = (is, it.0, refl); stays = weaker g store old (λ left. left ≡ old) _ (λ left same. inl same) it.1 }
+  pub not_listed : (names : Names) (clear : TableClear) (store : Store S g) (old : Content) (cause : StoreFault) → IsToBeCleared names clear old → IsFailure cause × HasStayed g store old (λ left. left ≡ old)
+      → HasCleared g names clear store old (Failed cause)
+  not_listed names clear store old cause is it = record { new = old; clears = (is, it.0, refl); stays = weaker g store old (λ left. left ≡ old) _ (λ left same. inl same) it.1 }
 
-  module _ (schema table source : List ℕ) (number : ℕ) (before after : Store S g) (old : Content) (rows : ℕ) (changes : List ChangeValue) (later : after.following ≡ before.following) (is : IsToBeCleared before.following schema table source number old) (are : AreDeletesOf schema table old.rows changes) (so_many : rows ≡ length changes) where
+  module _ (clear : TableClear) (before after : Store S g) (old : Content) (rows : ℕ) (changes : List ChangeValue) (later : after.following ≡ before.following) (is : IsToBeCleared before.following clear old) (are : AreDeletesOf clear.schema clear.table old.rows changes) (so_many : rows ≡ length changes) where
     -- the transaction is executed before
-    not_known : {X : Type 0} → set.contains old.executed (source, number) ≡ true → X
+    not_known : {X : Type 0} → set.contains old.executed (clear.source, clear.number) ≡ true → X
     not_known known = absurd (false≢true (sym is.fresh ∙ known))
 
-    left_so : (left : Content) → HasOutcome before.following old (record { source = source; number = number; changes = changes }) (done left) → IsCleared schema table source number old left
-    left_so left outcome = is_cleared before.following schema table source number old changes are is.followed left outcome
+    left_so : (left : Content) → HasOutcome before.following old (record { source = clear.source; number = clear.number; changes = changes }) (done left) → IsCleared clear old left
+    left_so left outcome = is_cleared before.following clear old changes are is.followed left outcome
 
-    by_answer : (answer : Result Bool Reason) → TakesAlone g old (record { source = source; number = number; changes = changes }) before after answer → HasCleared g before.following schema table source number after old (end_by rows answer)
+    by_answer : (answer : Result Bool Reason) → TakesAlone g old (record { source = clear.source; number = clear.number; changes = changes }) before after answer → HasCleared g before.following clear after old (end_by rows answer)
     by_answer (Ok true) it = record {
       new = it.after;
       clears = elim it.applies [
         | inl one ↦ (
           is,
-          record { entries = are.entries; lists = are.lists; counted = so_many ∙ ap length are.changes_are ∙ as_many schema table are.entries },
-          subst (λ (c : Content). IsCleared schema table source number old c) (sym one.4.1) (left_so one.0 one.2),
+          record { entries = are.entries; lists = are.lists; counted = so_many ∙ ap length are.changes_are ∙ as_many clear.schema clear.table are.entries },
+          subst (λ (c : Content). IsCleared clear old c) (sym one.4.1) (left_so one.0 one.2),
         )
         | inr known ↦ not_known known.0
       ];
@@ -241,8 +241,8 @@ module _ {S : Type 0} (g : Ghosts S) (settled : (h : Held S) (db : Trees) → Is
       | inl one ↦ absurd (omega (arith, one.3))
       | inr known ↦ not_known known.0
     ]
-    by_answer (Err (Refused (NoSuchRow at))) it = absurd (none_refused before.following schema table is.followed old.rows are.entries at why.NoSuchRow are.lists (subst (λ cs. IsRefusedAt before.following cs old.rows at why.NoSuchRow) are.changes_are it.0.1))
-    by_answer (Err (Refused (CountFull at))) it = absurd (none_refused before.following schema table is.followed old.rows are.entries at why.CountFull are.lists (subst (λ cs. IsRefusedAt before.following cs old.rows at why.CountFull) are.changes_are it.0.1))
+    by_answer (Err (Refused (NoSuchRow at))) it = absurd (none_refused before.following clear.schema clear.table is.followed old.rows are.entries at why.NoSuchRow are.lists (subst (λ cs. IsRefusedAt before.following cs old.rows at why.NoSuchRow) are.changes_are it.0.1))
+    by_answer (Err (Refused (CountFull at))) it = absurd (none_refused before.following clear.schema clear.table is.followed old.rows are.entries at why.CountFull are.lists (subst (λ cs. IsRefusedAt before.following cs old.rows at why.CountFull) are.changes_are it.0.1))
     by_answer (Err (Database (fault.Database e))) it = record {
       new = old;
       clears = (is, refl);
@@ -297,11 +297,11 @@ module _ {S : Type 0} (g : Ghosts S) (settled : (h : Held S) (db : Trees) → Is
     by_answer (Err Until) it = absurd it
 
   -- the tables are those of the store from before the list
-  pub ends_by : (names : Names) (schema table source : List ℕ) (number : ℕ) (before after : Store S g) (old : Content) (rows : ℕ) (changes : List ChangeValue) (answer : Result Bool Reason) (end : ClearEnd) → end ≡ end_by rows answer → before.following ≡ names → after.following ≡ before.following → IsToBeCleared names schema table source number old
-      → AreDeletesOf schema table old.rows changes → rows ≡ length changes → TakesAlone g old (record { source = source; number = number; changes = changes }) before after answer → HasCleared g names schema table source number after old end
-  ends_by names schema table source number before after old rows changes answer end ends same later is are so_many takes =
-      subst₂ (λ n e. HasCleared g n schema table source number after old e) same (sym ends)
-      (by_answer schema table source number before after old rows changes later (subst (λ n. IsToBeCleared n schema table source number old) (sym same) is) are so_many answer takes)
+  pub ends_by : (names : Names) (clear : TableClear) (before after : Store S g) (old : Content) (rows : ℕ) (changes : List ChangeValue) (answer : Result Bool Reason) (end : ClearEnd) → end ≡ end_by rows answer → before.following ≡ names → after.following ≡ before.following → IsToBeCleared names clear old
+      → AreDeletesOf clear.schema clear.table old.rows changes → rows ≡ length changes → TakesAlone g old (record { source = clear.source; number = clear.number; changes = changes }) before after answer → HasCleared g names clear after old end
+  ends_by names clear before after old rows changes answer end ends same later is are so_many takes =
+      subst₂ (λ n e. HasCleared g n clear after old e) same (sym ends)
+      (by_answer clear before after old rows changes later (subst (λ n. IsToBeCleared n clear old) (sym same) is) are so_many answer takes)
 
 -- whether the observer has ended it
 pub may_end_by : (rows : ℕ) (answer : Result Bool Reason) (account : Account) → IfErr answer (λ reason. IsOwnOrHalted reason account.has_stopped) → MayEndClear (end_by rows answer) account

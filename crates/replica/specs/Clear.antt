@@ -2,6 +2,7 @@
 use Rattle.std.specs.Prelude.{◌≡◌, ◌≢◌, ◌⊎◌, ℕ, ◌+◌, Bool, true, false, ◌&&◌, if◌then◌else◌, List, [], ◌∷◌}
 use Rattle.std.specs.Str.{bytes_eq}
 use Rattle.std.specs.FinSet as set
+use Rattle.gtid.specs.declared.identifier.Gtid.{Gtid}
 use Rattle.binlog.specs.Cell.{CellValue}
 use Rattle.binlog.specs.Filter.{Names, admits}
 use Rattle.store.specs.State.{TableRow, row_of, Bag, Content}
@@ -14,11 +15,22 @@ use Rattle.replica.specs.declared.clearing.ClearEnd.TheVariants.{Cleared, Repeat
 use Rattle.replica.specs.Noted.{Account}
 use Rattle.replica.specs.Alone.{IsOwnOrHalted}
 
+-- The table whose rows are taken out, and the GTID of the transaction that takes them out.
+pub record TableClear : Type 0 where
+  pub schema : List ℕ
+  pub table : List ℕ
+  pub source : List ℕ
+  pub number : ℕ
+
+-- the table of these names, and this GTID
+abbrev pub clear_of : List ℕ → List ℕ → Gtid → TableClear
+clear_of schema table gtid = record { schema = schema; table = table; source = gtid.source; number = gtid.number }
+
 -- No row of the table is there any more, each row of another table is there as often as before, and the GTID is executed too.
-pub record IsCleared (schema table source : List ℕ) (number : ℕ) (old new : Content) : Type 0 where
-  pub executed : new.executed ≡ set.insert old.executed (source, number)
-  pub gone : (cells : List CellValue) → new.rows (row_of schema table cells) ≡ 0
-  pub others : (r : TableRow) → (r.schema ≢ schema) ⊎ (r.table ≢ table) → new.rows r ≡ old.rows r
+pub record IsCleared (clear : TableClear) (old new : Content) : Type 0 where
+  pub executed : new.executed ≡ set.insert old.executed (clear.source, clear.number)
+  pub gone : (cells : List CellValue) → new.rows (row_of clear.schema clear.table cells) ≡ 0
+  pub others : (r : TableRow) → (r.schema ≢ clear.schema) ⊎ (r.table ≢ clear.table) → new.rows r ≡ old.rows r
 
 -- whether a row is one of the table
 abbrev pub is_in_table : List ℕ → List ℕ → TableRow → Bool
@@ -35,19 +47,19 @@ pub record HasTableRows (schema table : List ℕ) (bag : Bag) (count : ℕ) : Ty
   pub lists : ListsBag bag entries
   pub counted : count ≡ rows_in_table schema table entries
 
-module _ (names : Names) (schema table source : List ℕ) (number : ℕ) where
+module _ (names : Names) (clear : TableClear) where
   -- The GTID is not executed, and the filter admits the table.
   pub record IsToBeCleared (old : Content) : Type 0 where
-    pub fresh : set.contains old.executed (source, number) ≡ false
-    pub followed : admits names schema table ≡ true
+    pub fresh : set.contains old.executed (clear.source, clear.number) ≡ false
+    pub followed : admits names clear.schema clear.table ≡ true
 
   -- The new content, by how it has ended: the old one without the rows of the table, of which there were so many; or the old one,
   -- since the GTID was executed, the filter leaves the table out, the rows could not be listed, or the transaction was not applied.
   -- It is not refused.
   abbrev pub ClearsTo : Content → ClearEnd → Content → Type 0
-  ClearsTo old (Cleared rows) new = IsToBeCleared old × HasTableRows schema table old.rows rows × IsCleared schema table source number old new
-  ClearsTo old Repeat new = (set.contains old.executed (source, number) ≡ true) × (new ≡ old)
-  ClearsTo old NotFollowed new = (set.contains old.executed (source, number) ≡ false) × (admits names schema table ≡ false) × (new ≡ old)
+  ClearsTo old (Cleared rows) new = IsToBeCleared old × HasTableRows clear.schema clear.table old.rows rows × IsCleared clear old new
+  ClearsTo old Repeat new = (set.contains old.executed (clear.source, clear.number) ≡ true) × (new ≡ old)
+  ClearsTo old NotFollowed new = (set.contains old.executed (clear.source, clear.number) ≡ false) × (admits names clear.schema clear.table ≡ false) × (new ≡ old)
   ClearsTo old (Failed cause) new = IsToBeCleared old × IsFailure cause × (new ≡ old)
   ClearsTo old (Stopped (Database (fault.Database e))) new = IsToBeCleared old × (new ≡ old)
   ClearsTo old (Stopped Memory) new = IsToBeCleared old × (new ≡ old)
@@ -56,7 +68,7 @@ module _ (names : Names) (schema table source : List ℕ) (number : ℕ) where
 
   -- The database failed in the transaction, and what is left has no rows of the table.
   abbrev pub IsClearedLeft : Content → ClearEnd → Content → Type 0
-  IsClearedLeft old (Stopped (Database (fault.Database e))) left = IsCleared schema table source number old left
+  IsClearedLeft old (Stopped (Database (fault.Database e))) left = IsCleared clear old left
   IsClearedLeft old _ left = ⊥
 
   -- What a crash leaves: the new content, or the old one without the rows of the table if the database failed.

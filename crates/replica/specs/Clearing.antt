@@ -19,7 +19,7 @@ use Rattle.replica.specs.declared.end.Reason.{Reason}
 use Rattle.replica.specs.declared.clearing.ClearEnd.{ClearEnd}
 use Rattle.replica.specs.declared.clearing.ClearEnd.TheVariants.{Cleared, Repeat, Stopped}
 use Rattle.replica.specs.declared.clearing.TableRows.{TableRows}
-use Rattle.replica.specs.Clear.{is_in_table, ClearsTo, IsLeftOfClear}
+use Rattle.replica.specs.Clear.{TableClear, is_in_table, ClearsTo, IsLeftOfClear}
 use Rattle.replica.specs.Noted.{Account, IsLeftOfNoted, IsNotedSinceOpening}
 use Rattle.replica.specs.Over.{LeavesOnly, HasStayed}
 
@@ -62,10 +62,10 @@ module _ {S : Type 0} (g : Ghosts S) where
   ListsDeletes schema table content new (Err cause) = IsFailure cause × HasStayed g new content (λ left. left ≡ content)
 
   -- The store has the content that this end leads to.
-  pub record HasCleared (names : Names) (schema table source : List ℕ) (number : ℕ) (store : Store S g) (old : Content) (end : ClearEnd) : Type 0 where
+  pub record HasCleared (names : Names) (clear : TableClear) (store : Store S g) (old : Content) (end : ClearEnd) : Type 0 where
     pub new : Content
-    pub clears : ClearsTo names schema table source number old end new
-    pub stays : HasStayed g store new (IsLeftOfClear names schema table source number old end new)
+    pub clears : ClearsTo names clear old end new
+    pub stays : HasStayed g store new (IsLeftOfClear names clear old end new)
 
   -- What was reported to an observer since the opening leads from the old content to the one that the store has, and a crash leaves
   -- that, or one transaction more.

@@ -7,7 +7,7 @@ ghost use Rattle.store.specs.State.{Content};
 ghost use Rattle.store.specs.Entering.{names_for};
 ghost use Rattle.replica.specs.NotedFile.{IsNotedOfFiles};
 ghost use Rattle.replica.specs.File.{FilesHold, IsTurnedAway, ClosesAs, KeepsContent};
-ghost use Rattle.replica.specs.Clear.{MayEndClear};
+ghost use Rattle.replica.specs.Clear.{MayEndClear, clear_of};
 ghost use Rattle.replica.specs.ClearFile.{ClearsFile};
 
 use crate::clearing::{ClearEnd, clear};
@@ -46,7 +46,7 @@ pub fn clear_file<P: Start, W: Observer>(
     // rows of the table, if the end says so, and otherwise the content itself.
     ensures clears { IfOk result (λ done. (names : Names) (content : Content)
         → FilesHold (names_for None) names content (image_at P.Start)
-        → ClearsFile schema.now table.now gtid.source gtid.number names content done) }
+        → ClearsFile (clear_of schema.now table.now gtid) names content done) }
     // Any other database whose tables are known stood for a content too. Why the files could not be closed is what they met.
     ensures closing { IfOk result (λ done. ClosesAs None (image_at P.Start) done.closed) }
     // It stops for the observer only if that has stopped.

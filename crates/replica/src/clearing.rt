@@ -6,7 +6,7 @@ ghost use Rattle.gather.specs.Transaction.{delete};
 ghost use Rattle.store.specs.State.{Content};
 ghost use Rattle.store.specs.Listing.{entry_of};
 ghost use Rattle.store.specs.Store.{Holds, database, names_of};
-ghost use Rattle.replica.specs.Clear.{is_in_table, MayEndClear};
+ghost use Rattle.replica.specs.Clear.{is_in_table, MayEndClear, clear_of};
 ghost use Rattle.replica.specs.Over.{HasStayed};
 ghost use Rattle.replica.specs.Clearing.{TakesRow, gathered_of, ListsDeletes, end_by, HasCleared, IsClearedSinceOpening};
 ghost use Rattle.replica.specs.Keeps.{KeepsStore};
@@ -162,8 +162,8 @@ pub(crate) fn clear<S: Alter, W: Observer>(
 ) -> ClearEnd
     ensures clears { HasCleanDisk (database S.Store store.new) → (old : Content)
         → Holds S.Store store.old old
-        → HasCleared S.Store (names_of S.Store store.old) schema.now table.now
-        gtid.source gtid.number store.new old result }
+        → HasCleared S.Store (names_of S.Store store.old) (clear_of schema.now table.now gtid)
+        store.new old result }
     ensures notes { HasCleanDisk (database S.Store store.new) → (old : Content)
         → Holds S.Store store.old old
         → IsClearedSinceOpening S.Store (names_of S.Store store.old) store.new old

@@ -1,12 +1,13 @@
 use Rattle.std.proofs.Common.{◌≡◌, false, refl, sym, subst}
 use Rattle.store.specs.Store.{Holds}
+use Rattle.replica.specs.Clear.{clear_of}
 use Rattle.replica.proofs.ClearStore.{contains_by, admits_by, opened_noted, led_opened, led_applied, stays_whole, repeats, not_followed, not_listed, ends_by}
 use Rattle.replica.proofs.Keeps.{store_then}
 use Rattle.replica.proofs.clearing.clear.Goals as goal
 
 pub returns-then-contains-clause-clears : goal.returns-then-contains-clause-clears
 returns-then-contains-clause-clears g c clean old holds =
-    repeats g.S.Store (λ h db is_open may. g.met.S.Store.settled h.store db is_open may) c.args.store.now.following c.args.schema.now c.args.table.now c.args.gtid.source c.args.gtid.number c.args.store.now old
+    repeats g.S.Store (λ h db is_open may. g.met.S.Store.settled h.store db is_open may) c.args.store.now.following (clear_of c.args.schema.now c.args.table.now c.args.gtid) c.args.store.now old
     (contains_by old.executed c.executed-2.result.now c.args.gtid.source c.args.gtid.number c.contains.result _ (c.executed-2.ensures.value false old holds) c.contains.ensures c.if-contains.true) holds
 
 pub returns-then-contains-clause-notes : goal.returns-then-contains-clause-notes
@@ -16,7 +17,7 @@ returns-then-contains-clause-notes g c clean old holds =
 
 pub returns-then-not-follows-clause-clears : goal.returns-then-not-follows-clause-clears
 returns-then-not-follows-clause-clears g c clean old holds =
-    not_followed g.S.Store (λ h db is_open may. g.met.S.Store.settled h.store db is_open may) c.args.store.now.following c.args.schema.now c.args.table.now c.args.gtid.source c.args.gtid.number c.args.store.now old
+    not_followed g.S.Store (λ h db is_open may. g.met.S.Store.settled h.store db is_open may) c.args.store.now.following (clear_of c.args.schema.now c.args.table.now c.args.gtid) c.args.store.now old
     (contains_by old.executed c.executed-2.result.now c.args.gtid.source c.args.gtid.number c.contains.result _ (c.executed-2.ensures.value false old holds) c.contains.ensures c.if-contains.false)
     (admits_by c.args.store.now.following c.following.result.now c.args.schema.now c.args.table.now c.follows.result _ c.following.ensures c.follows.ensures c.if-not-follows.true) holds
 
@@ -27,7 +28,7 @@ returns-then-not-follows-clause-notes g c clean old holds =
 
 pub returns-in-Err-clause-clears : goal.returns-in-Err-clause-clears
 returns-in-Err-clause-clears g c clean old holds =
-    not_listed g.S.Store (λ h db is_open may. g.met.S.Store.settled h.store db is_open may) c.args.store.now.following c.args.schema.now c.args.table.now c.args.gtid.source c.args.gtid.number c.list_deletes.new.store old c.in-Err.fault
+    not_listed g.S.Store (λ h db is_open may. g.met.S.Store.settled h.store db is_open may) c.args.store.now.following (clear_of c.args.schema.now c.args.table.now c.args.gtid) c.list_deletes.new.store old c.in-Err.fault
     (record {
       fresh = contains_by old.executed c.executed-2.result.now c.args.gtid.source c.args.gtid.number c.contains.result _ (c.executed-2.ensures.value false old holds) c.contains.ensures c.if-contains.false;
       followed = admits_by c.args.store.now.following c.following.result.now c.args.schema.now c.args.table.now c.follows.result _ c.following.ensures c.follows.ensures c.if-not-follows.false;
@@ -42,7 +43,7 @@ returns-in-Err-clause-notes g c clean old holds =
 pub returns-clause-clears : goal.returns-clause-clears
 returns-clause-clears g c clean old holds =
     let lists = c.in-Ok.ensures.lists (c.apply.ensures.keeps.store.clean clean) old holds in
-    ends_by g.S.Store (λ h db is_open may. g.met.S.Store.settled h.store db is_open may) c.args.store.now.following c.args.schema.now c.args.table.now c.args.gtid.source c.args.gtid.number c.list_deletes.new.store c.apply.new.store old c.len-rows.result c.in-Ok.changes c.apply.result c.end_of_clear.result
+    ends_by g.S.Store (λ h db is_open may. g.met.S.Store.settled h.store db is_open may) c.args.store.now.following (clear_of c.args.schema.now c.args.table.now c.args.gtid) c.list_deletes.new.store c.apply.new.store old c.len-rows.result c.in-Ok.changes c.apply.result c.end_of_clear.result
     c.end_of_clear.ensures c.list_deletes.ensures.keeps.following c.apply.ensures.keeps.store.following
     (record {
       fresh = contains_by old.executed c.executed-2.result.now c.args.gtid.source c.args.gtid.number c.contains.result _ (c.executed-2.ensures.value false old holds) c.contains.ensures c.if-contains.false;
