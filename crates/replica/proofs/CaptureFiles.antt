@@ -17,7 +17,7 @@ use Rattle.replica.specs.Capture.{Reads}
 use Rattle.replica.specs.File.{LeavesContent, IsOpenedIn, IsCleanlyClosed, WasClosed, ClosesAs}
 use Rattle.replica.specs.NotedFile.{IsNotedOfFiles, HaveReached}
 use Rattle.replica.specs.Replay.{LeadsTo, MayLeave}
-use Rattle.replica.specs.FollowFile.{Connects, MayHold, FollowsFile}
+use Rattle.replica.specs.FollowFile.{StreamView, Connects, MayHold, FollowsFile}
 use Rattle.replica.proofs.CaptureList.{reads_weaker}
 use Rattle.replica.proofs.WaitSets.{has_reached}
 
@@ -116,23 +116,23 @@ module _ {D : Type 0} (g : Ghosts D) (names : Names) (old : Content) (opened aft
       let clean : HasCleanDisk (database over_files after) = omega (arith, quiet.clean, honest) in
       reads_weaker left _ (MayLeave g limit names old e.1) (λ bs es a. may_leave limit (same ∙ (opens clean).1) e.1 bs es (λ trees may. quiet.outcomes trees may) a) captures ends read (reads clean false old (opens clean).0)
 
-  pub followed_into : (only : Names) {T E : Type 0} (left written : T → Option (List ℕ)) (failures : T → Option (ℕ × ℕ)) (gives : Ids → Result T E → Type 0) (settings : Settings) (connection : Result (Ended × Counted T) E) (closed : Result (Files D) (Error × FileStore D g))
+  pub followed_into : (only : Names) {T E : Type 0} (known : StreamView T) (gives : Ids → Result T E → Type 0) (settings : Settings) (connection : Result (Ended × Counted T) E) (closed : Result (Files D) (Error × FileStore D g))
       → after.following ≡ opened.following → (HasCleanDisk (database over_files after) → Holds over_files opened old × (opened.following ≡ names)) → LeavesContent only names old (database over_files opened)
-      → (HasCleanDisk (database over_files after) → (was : Bool) (content : Content) → HoldsAs over_files was content opened → Connects over_files left written failures gives settings opened after was content connection)
+      → (HasCleanDisk (database over_files after) → (was : Bool) (content : Content) → HoldsAs over_files was content opened → Connects over_files known gives settings opened after was content connection)
       → IfOk closed (λ files. AreClean g files.log files.db → IsCopied after.conn files)
       → IfErr closed (λ e. IsClosed after.conn e.1 × (IsClean (view e.1) → FailsToClose after.conn e.1 e.0))
-      → FollowsFile left written failures gives settings only names old (record { connection = connection; closed = closed })
-  followed_into only left written failures gives settings (Ok (end, counted)) (Ok files) same opens left_there connects copied failed = λ honest.
+      → FollowsFile known gives settings only names old (record { connection = connection; closed = closed })
+  followed_into only known gives settings (Ok (end, counted)) (Ok files) same opens left_there connects copied failed = λ honest.
       let copy = copied honest in
       let o = opens copy.was_clean in
       let f = connects copy.was_clean false old o.0 in
       record { before = opened; after = after; holds = o.0; following = o.1; over = f; comes = closed_with g names after (same ∙ o.1) f.follows.has_read.is f.follows.has_read.new files copy f.follows.has_read.holds }
-  followed_into only left written failures gives settings (Err cause) (Ok files) same opens left_there connects copied failed = λ honest.
+  followed_into only known gives settings (Err cause) (Ok files) same opens left_there connects copied failed = λ honest.
       let copy = copied honest in
       let o = opens copy.was_clean in
       let f = connects copy.was_clean false old o.0 in
       (f.0, closed_with g names after (same ∙ o.1) false old files copy (subst (λ (s : Store (FileStore D g) over_files). Holds over_files s old) (sym f.1) o.0))
-  followed_into only left written failures gives settings (Ok (end, counted)) (Err e) same opens left_there connects copied failed = λ honest.
+  followed_into only known gives settings (Ok (end, counted)) (Err e) same opens left_there connects copied failed = λ honest.
       let quiet = failed.0.quiet in
       let clean : HasCleanDisk (database over_files after) = omega (arith, quiet.clean, honest) in
       let o = opens clean in
@@ -147,7 +147,7 @@ module _ {D : Type 0} (g : Ghosts D) (names : Names) (old : Content) (opened aft
         comes = may_hold g names after (same ∙ o.1) (database over_files opened).now.schema (crash.IsLeftOfOne settings.limit names old f.follows.read r.new end) e.1 (λ trees may. quiet.outcomes trees may)
             (subst (λ n. LeavesOnly over_files (database over_files opened).now.schema after (crash.IsLeftOfOne settings.limit n old f.follows.read r.new end)) o.1 (r.leaves refl));
       }
-  followed_into only left written failures gives settings (Err cause) (Err e) same opens left_there connects copied failed = λ honest.
+  followed_into only known gives settings (Err cause) (Err e) same opens left_there connects copied failed = λ honest.
       let quiet = failed.0.quiet in
       let clean : HasCleanDisk (database over_files after) = omega (arith, quiet.clean, honest) in
       let f = connects clean false old (opens clean).0 in

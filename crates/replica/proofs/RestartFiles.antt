@@ -9,7 +9,7 @@ use Rattle.replica.specs.declared.counted.Counted.{Counted}
 use Rattle.replica.specs.Resume.{Reaches, Restarts, end_reason}
 use Rattle.replica.specs.declared.file.Unopened.{Unopened}
 use Rattle.replica.specs.File.{IsTurnedAway}
-use Rattle.replica.specs.FollowFile.{FollowsFile}
+use Rattle.replica.specs.FollowFile.{StreamView, FollowsFile}
 use Rattle.replica.specs.Restart.{IsSent, MayFind, MayFindUnopened, IsLeftUnopened, Starts, IsUncut, AreStarts, HoldFirst, FilesNeverFall}
 use Rattle.replica.proofs.Bytes.{all_back}
 use Rattle.scripted_source.specs.Source.{is_once}
@@ -44,7 +44,7 @@ still_found only names content before next r hold =
     subst (λ n. FilesHold n names content next) r.is_for
     (unopened_found r.wanted names content before next r.why (subst (λ n. FilesHold n names content before) (sym r.is_for) hold) r.away r.finds)
 
-module _ (one_dump : (a b : DumpValue) (payload : List ℕ) → IsDump a payload → IsDump b payload → a ≡ b) {D : Type 0} (g : Ghosts D) {F T E : Type 0} (left written : T → Option (List ℕ)) (failures : T → Option (ℕ × ℕ))
+module _ (one_dump : (a b : DumpValue) (payload : List ℕ) → IsDump a payload → IsDump b payload → a ≡ b) {D : Type 0} (g : Ghosts D) {F T E : Type 0} (known : StreamView T)
     (gives : F → Ids → Result T E → Type 0) (only names : Names) (history : List ScriptValue) where
   -- a connection over what was read of what the source has sent, and what is left of it
   restart : (limit : ℕ) (held : Content) (given last : Option (List ℕ)) (read : List ℕ) (new content : Content) (end : Ended) → IsSent limit names history held given → Consumes given last read
@@ -72,14 +72,14 @@ module _ (one_dump : (a b : DumpValue) (payload : List ℕ) → IsDump a payload
   stays j held next reached hold = (0, record { content = held; hold = hold; reached = subst (λ n. Reaches names history n held) (sym (add-zero j)) reached })
 
   found : (settings : Settings) (connect : F) (j : ℕ) (held : Content) (next : Image) → Reaches names history j held → (connection : Result (Ended × Counted T) E) (closed : Result (Files D) (Error × FileStore D g))
-      → FollowsFile left written failures (gives connect) settings only names held (record { connection = connection; closed = closed })
-      → ((stream : T) → gives connect held.executed (Ok stream) → IsSent settings.limit names history held (left stream)) → MayFind closed next → (i : ℕ) × HoldFirst only names history next (j + i)
+      → FollowsFile known (gives connect) settings only names held (record { connection = connection; closed = closed })
+      → ((stream : T) → gives connect held.executed (Ok stream) → IsSent settings.limit names history held (known.left stream)) → MayFind closed next → (i : ℕ) × HoldFirst only names history next (j + i)
   found settings connect j held next reached (Ok (end, counted)) (Ok files) follows sent finds =
       let q = follows finds.0 in
       let f = q.over.follows in
       let r = f.has_read in
       let conn = subst (λ n. Conn settings.limit n false held f.read r.new end) q.following r.conn in
-      let s = restart settings.limit held (left q.over.stream) (left counted.stream) f.read r.new r.new end (sent q.over.stream q.over.given) f.reads conn (inl refl) in
+      let s = restart settings.limit held (known.left q.over.stream) (known.left counted.stream) f.read r.new r.new end (sent q.over.stream q.over.given) f.reads conn (inl refl) in
       let one = restarted one_dump settings.limit names history j held r.new reached s in
       (one.0, record { content = r.new; hold = closed_found g only names r.new files next q.comes finds.1; reached = one.1 })
   found settings connect j held next reached (Err cause) (Ok files) follows sent finds = stays j held next reached (closed_found g only names held files next (follows finds.0).1 finds.1)
@@ -89,13 +89,13 @@ module _ (one_dump : (a b : DumpValue) (payload : List ℕ) → IsDump a payload
       let r = f.has_read in
       let conn = subst (λ n. Conn settings.limit n false held f.read r.new end) q.following r.conn in
       let m = q.comes finds.1.0 finds.1.1 in
-      let s = restart settings.limit held (left q.over.stream) (left counted.stream) f.read r.new m.0 end (sent q.over.stream q.over.given) f.reads conn m.1 in
+      let s = restart settings.limit held (known.left q.over.stream) (known.left counted.stream) f.read r.new m.0 end (sent q.over.stream q.over.given) f.reads conn m.1 in
       let one = restarted one_dump settings.limit names history j held m.0 reached s in
       (one.0, record { content = m.0; hold = inr (finds.1.0, finds.1.2, m.2 only); reached = one.1 })
   found settings connect j held next reached (Err cause) (Err e) follows sent finds = stays j held next reached (inr (finds.1.0, finds.1.2, (follows finds.0).1 finds.1.0 finds.1.1))
 
   pub files_never_fall : (j : ℕ) (held : Content) (before : Image) (images : List Image) → Reaches names history j held → FilesHold only names held before
-      → AreStarts g left written failures gives only names history before images → FilesNeverFall only names history j images
+      → AreStarts g known gives only names history before images → FilesNeverFall only names history j images
   files_never_fall j held before [] reached hold starts = tt
   files_never_fall j held before (next ∷ images) reached hold starts =
       let one : (i : ℕ) × HoldFirst only names history next (j + i) = elim starts.0 [
@@ -132,8 +132,8 @@ module _ (one_dump : (a b : DumpValue) (payload : List ℕ) → IsDump a payload
   not_one_more limit held read new content end in_full (inr more) = absurd (subst IsInFull more.failed in_full)
 
   all_found : (settings : Settings) (connect : F) (j : ℕ) (held : Content) (next : Image) → Reaches names history j held → (end : Ended) (counted : Counted T) (closed : Result (Files D) (Error × FileStore D g))
-      → FollowsFile left written failures (gives connect) settings only names held (record { connection = Ok (end, counted); closed = closed })
-      → ((stream : T) → gives connect held.executed (Ok stream) → (s : IsSent settings.limit names history held (left stream)) × (s.more ≡ [])) → IsInFull end.reason → left counted.stream ≡ Some [] → MayFind closed next
+      → FollowsFile known (gives connect) settings only names held (record { connection = Ok (end, counted); closed = closed })
+      → ((stream : T) → gives connect held.executed (Ok stream) → (s : IsSent settings.limit names history held (known.left stream)) × (s.more ≡ [])) → IsInFull end.reason → known.left counted.stream ≡ Some [] → MayFind closed next
       → HoldFirst only names history next (length history)
   all_found settings connect j held next reached end counted (Ok files) follows sent in_full nothing finds =
       let q = follows finds.0 in
@@ -143,7 +143,7 @@ module _ (one_dump : (a b : DumpValue) (payload : List ℕ) → IsDump a payload
       let s = sent q.over.stream q.over.given in record {
         content = r.new;
         hold = closed_found g only names r.new files next q.comes finds.1;
-        reached = leads_to_all settings.limit j held (left q.over.stream) (left counted.stream) f.read r.new end reached s.0 s.1 nothing f.reads in_full conn;
+        reached = leads_to_all settings.limit j held (known.left q.over.stream) (known.left counted.stream) f.read r.new end reached s.0 s.1 nothing f.reads in_full conn;
       }
   all_found settings connect j held next reached end counted (Err e) follows sent in_full nothing finds =
       let q = follows finds.0 in
@@ -152,15 +152,15 @@ module _ (one_dump : (a b : DumpValue) (payload : List ℕ) → IsDump a payload
       let conn = subst (λ n. Conn settings.limit n false held f.read r.new end) q.following r.conn in
       let s = sent q.over.stream q.over.given in
       let m = q.comes finds.1.0 finds.1.1 in
-      let all = leads_to_all settings.limit j held (left q.over.stream) (left counted.stream) f.read r.new end reached s.0 s.1 nothing f.reads in_full conn in record {
+      let all = leads_to_all settings.limit j held (known.left q.over.stream) (known.left counted.stream) f.read r.new end reached s.0 s.1 nothing f.reads in_full conn in record {
         content = m.0;
         hold = inr (finds.1.0, finds.1.2, m.2 only);
         reached = subst (λ c. Reaches names history (length history) c) (sym (not_one_more settings.limit held f.read r.new m.0 end in_full m.1)) all;
       }
 
-  pub files_hold_all : (j : ℕ) (held : Content) (before next : Image) → Reaches names history j held → FilesHold only names held before → (s : Starts g left written failures gives only names history before next)
-      → IsUncut g left written failures gives only names history before next s → HoldFirst only names history next (length history)
+  pub files_hold_all : (j : ℕ) (held : Content) (before next : Image) → Reaches names history j held → FilesHold only names held before → (s : Starts g known gives only names history before next)
+      → IsUncut g known gives only names history s → HoldFirst only names history next (length history)
   files_hold_all j held before next reached hold s u =
       all_found s.settings s.connect j held next reached u.end u.counted s.done.closed
-      (subst (λ c. FollowsFile left written failures (gives s.connect) s.settings only names held (record { connection = c; closed = s.done.closed })) u.connection (s.follows held hold))
+      (subst (λ c. FollowsFile known (gives s.connect) s.settings only names held (record { connection = c; closed = s.done.closed })) u.connection (s.follows held hold))
       (λ stream gave. (s.sent stream held gave hold, u.all_sent stream held gave hold)) u.in_full u.nothing_left s.finds

@@ -27,7 +27,7 @@ use Rattle.replica.specs.Follow.{IsInFull}
 use Rattle.replica.specs.Resume.{Reaches, Resumes}
 use Rattle.replica.specs.declared.file.Unopened.{Unopened}
 use Rattle.replica.specs.File.{FilesHold, MayFindLeft, IsTurnedAway}
-use Rattle.replica.specs.FollowFile.{FollowsFile}
+use Rattle.replica.specs.FollowFile.{StreamView, FollowsFile}
 
 -- What a source with this history sends to a replica that holds this content, and the prefix of it that a stream has left
 -- to read.
@@ -67,25 +67,25 @@ pub record IsLeftUnopened {D : Type 0} (g : Ghosts D) (only : Names) (before nex
   pub away : IsTurnedAway wanted before why
   pub finds : MayFindUnopened before why next
 
-module _ {D : Type 0} (g : Ghosts D) {F T E : Type 0} (left written : T → Option (List ℕ)) (failures : T → Option (ℕ × ℕ)) (gives : F → Ids → Result T E → Type 0) (only names : Names) (history : List ScriptValue) where
+module _ {D : Type 0} (g : Ghosts D) {F T E : Type 0} (known : StreamView T) (gives : F → Ids → Result T E → Type 0) (only names : Names) (history : List ScriptValue) where
   -- A source with this history was followed once into files that were the first image before; the next call may find the
   -- second. What is said of the call is the clause `follows` of `follow_file`.
   pub record Starts (before next : Image) : Type 0 where
     pub settings : Settings
     pub connect : F
     pub done : FollowedFile T E D g
-    pub follows : (content : Content) → FilesHold only names content before → FollowsFile left written failures (gives connect) settings only names content done
+    pub follows : (content : Content) → FilesHold only names content before → FollowsFile known (gives connect) settings only names content done
     -- each stream that is given for the executed set of the content that the files held has a prefix of what the source sends
-    pub sent : (stream : T) (held : Content) → gives connect held.executed (Ok stream) → FilesHold only names held before → IsSent settings.limit names history held (left stream)
+    pub sent : (stream : T) (held : Content) → gives connect held.executed (Ok stream) → FilesHold only names held before → IsSent settings.limit names history held (known.left stream)
     pub finds : MayFind done.closed next
 
   -- The stream that was given has all that the source sends, all of it was read, and the connection ended by its bytes.
-  pub record IsUncut (before next : Image) (start : Starts before next) : Type 0 where
+  pub record IsUncut {before next : Image} (start : Starts before next) : Type 0 where
     pub end : Ended
     pub counted : Counted T
     pub connection : start.done.connection ≡ Ok (end, counted)
     pub in_full : IsInFull end.reason
-    pub nothing_left : left counted.stream ≡ Some []
+    pub nothing_left : known.left counted.stream ≡ Some []
     pub all_sent : (stream : T) (held : Content) (gave : gives start.connect held.executed (Ok stream)) (hold : FilesHold only names held before) → (start.sent stream held gave hold).more ≡ []
 
   -- Each time the files are what the call before has left, which may have opened the database or not.

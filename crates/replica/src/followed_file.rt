@@ -52,8 +52,9 @@ fn connect_and_follow<
     observer: &mut W,
 ) -> Result<(Ended, Counted<T>), E>
     ensures connects { HasCleanDisk (database S.Store store.new) → (was : Bool) (old : Content)
-        → HoldsAs S.Store was old store.old → Connects S.Store T.Read.remaining T.Write.contents
-        T.failures (C.gives connect) config store.old store.new was old result }
+        → HoldsAs S.Store was old store.old → Connects S.Store
+        (record { left = T.Read.remaining; written = T.Write.contents; failures = T.failures })
+        (C.gives connect) config store.old store.new was old result }
     ensures counts { IfOk result (λ done. CountsFailures done.0 done.1) }
     ensures asked { IfOk result (λ done. IsAsked done.0.reason (W.account observer.new)) }
     ensures keeps { KeepsSinceOpening S.Store store.old store.new (W.account observer.old)
@@ -97,8 +98,9 @@ pub fn follow_file<
     // none, they hold the content from before.
     ensures follows { IfOk result (λ done. (names : Names) (content : Content)
         → FilesHold (names_for (wanted_of only.entry)) names content (image_at P.Start)
-        → FollowsFile T.Read.remaining T.Write.contents T.failures (C.gives connect) config
-        (names_for (wanted_of only.entry)) names content done) }
+        → FollowsFile
+        (record { left = T.Read.remaining; written = T.Write.contents; failures = T.failures })
+        (C.gives connect) config (names_for (wanted_of only.entry)) names content done) }
     // Such a database was made for the given tables; any other whose tables are known stood for a content too. Why the files
     // could not be closed is what they met.
     ensures closing { IfOk result (λ done. ClosesAs (wanted_of only.entry) (image_at P.Start)

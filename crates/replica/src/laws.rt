@@ -267,14 +267,17 @@ pub fn restarted_files<
 >(_files: &Files<D>, _connect: &C)
     ensures never_falls { (only names : Names) (history : List ScriptValue) (j : ℕ) (held : Content)
         (before : Image) (images : List Image) → Reaches names history j held
-        → FilesHold only names held before → AreStarts D.Disk T.Read.remaining T.Write.contents
-        T.failures C.gives only names history before images
+        → FilesHold only names held before → AreStarts D.Disk
+        (record { left = T.Read.remaining; written = T.Write.contents; failures = T.failures })
+        C.gives only names history before images
         → FilesNeverFall only names history j images }
     ensures whole { (only names : Names) (history : List ScriptValue) (j : ℕ) (held : Content)
         (before next : Image) → Reaches names history j held → FilesHold only names held before
-        → (start : Starts D.Disk T.Read.remaining T.Write.contents T.failures C.gives only names
-        history before next) → IsUncut D.Disk T.Read.remaining T.Write.contents T.failures C.gives
-        only names history before next start → HoldFirst only names history next (length history) }
+        → (start : Starts D.Disk
+        (record { left = T.Read.remaining; written = T.Write.contents; failures = T.failures })
+        C.gives only names history before next) → IsUncut D.Disk
+        (record { left = T.Read.remaining; written = T.Write.contents; failures = T.failures })
+        C.gives only names history start → HoldFirst only names history next (length history) }
 {
     greet::laws::dumps();
 }
