@@ -214,13 +214,13 @@ pub fn longest()
 /// the content after some of them, and none is left out in between.
 pub fn resuming(_opening: &[u8], _answer: &[u8])
     ensures leads { (limit : ℕ) (names : Names) (history : List ScriptValue) (j : ℕ)
-        (held last : Content) (request : List ℕ) →
-        (r : Resumes limit names history j held last request _opening.now _answer.now)
+        (held last : Content) (request : List ℕ) → (r : Resumes limit names history j held last
+        (record { request = request; opening = _opening.now; answer = _answer.now }))
         → Leads limit names held last (_opening.now ++ _answer.now)
         (transactions names (drop j history)) (end_reason (is_once r.dump.flags)) }
     ensures cut { (limit : ℕ) (names : Names) (history : List ScriptValue) (j : ℕ)
-        (held last : Content) (request : List ℕ) →
-        (r : Resumes limit names history j held last request _opening.now _answer.now)
+        (held last : Content) (request : List ℕ) → (r : Resumes limit names history j held last
+        (record { request = request; opening = _opening.now; answer = _answer.now }))
         → (part more : List ℕ) (count applied : ℕ) (new : Content)
         → _opening.now ++ _answer.now ≡ part ++ more
         → AppliesFirst limit names held part count applied new
@@ -235,7 +235,8 @@ pub fn resuming(_opening: &[u8], _answer: &[u8])
 pub fn stopped_anywhere(_opening: &[u8], _answer: &[u8])
     ensures { (limit : ℕ) (names : Names) (history : List ScriptValue) (j : ℕ) (held last : Content)
         (request : List ℕ) → (r : Resumes limit names history j held last
-        request _opening.now _answer.now) → (part more : List ℕ) (was : Bool) (new : Content)
+        (record { request = request; opening = _opening.now; answer = _answer.now }))
+        → (part more : List ℕ) (was : Bool) (new : Content)
         (end : Ended) (left : Content) → _opening.now ++ _answer.now ≡ part ++ more
         → Conn limit names was held part new end → IsLeftOfOne limit names held part new end left
         → (i : ℕ) × Reaches names history (j + i) new
