@@ -1,5 +1,5 @@
 -- A database file of which the rows of one table were taken out.
-use Rattle.replica.proofs.Names.{◌≡◌, ℕ, List, [], Result, Ok, Err, IfOk, IfErr, subst, ◌∙◌, arith, Files, AreClean, IsClean, FileStore, Error, HasCleanDisk, over_files, IsClosed, FailsToClose, IsCopied, Names, Content, Store, database, Account, IsLeftOfNoted}
+use Rattle.replica.proofs.Names.{◌≡◌, [], Result, Ok, Err, IfOk, IfErr, subst, ◌∙◌, arith, Files, AreClean, IsClean, FileStore, Error, HasCleanDisk, over_files, IsClosed, FailsToClose, IsCopied, Names, Content, Store, database, Account, IsLeftOfNoted}
 use Rattle.sqlite_disk.specs.declared.Disk.{Ghosts}
 use Rattle.sqlite_store.specs.FileStore.{view}
 use Rattle.store.specs.Store.{Holds}
