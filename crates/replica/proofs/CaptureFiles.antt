@@ -89,7 +89,7 @@ module _ {D : Type 0} (g : Ghosts D) (names : Names) (old : Content) (opened aft
   leads_to limit kept files bs ends copy a = record {
     is = a.is;
     new = a.new;
-    history = subst (λ n. History limit n false old bs a.is a.new ends) kept a.history;
+    history = subst (λ n. History limit n (record { broken = false; content = old }) bs (record { broken = a.is; content = a.new }) ends) kept a.history;
     closed = closed_with g names after kept a.is a.new files copy a.holds;
   }
 
@@ -97,9 +97,9 @@ module _ {D : Type 0} (g : Ghosts D) (names : Names) (old : Content) (opened aft
   may_leave limit kept last bs ends quiet a = record {
     is = a.is;
     new = a.new;
-    history = subst (λ n. History limit n false old bs a.is a.new ends) kept a.history;
-    each = may_hold g names after kept (database over_files opened).now.schema (IsLeftOfAll limit names false old bs a.new ends) last quiet
-        (subst (λ n. LeavesOnly over_files (database over_files opened).now.schema after (IsLeftOfAll limit n false old bs a.new ends)) kept (a.leaves refl));
+    history = subst (λ n. History limit n (record { broken = false; content = old }) bs (record { broken = a.is; content = a.new }) ends) kept a.history;
+    each = may_hold g names after kept (database over_files opened).now.schema (IsLeftOfAll limit names (record { broken = false; content = old }) bs a.new ends) last quiet
+        (subst (λ n. LeavesOnly over_files (database over_files opened).now.schema after (IsLeftOfAll limit n (record { broken = false; content = old }) bs a.new ends)) kept (a.leaves refl));
   }
 
   pub replayed : (limit : ℕ) {R : Type 0} (left : R → Option (List ℕ)) (captures : List (Capture R)) (ends : List Ended) (read : Result (Unit {0}) Halt) (closed : Result (Files D) (Error × FileStore D g))

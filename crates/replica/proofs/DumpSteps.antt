@@ -4,6 +4,7 @@ use Rattle.sqlite.specs.Held.{state}
 use Rattle.store.specs.declared.fault.StoreFault.TheVariants as fault
 use Rattle.store.specs.Store.{Holds}
 use Rattle.store.proofs.ExecutedInMemory.{stays}
+use Rattle.replica.specs.End.{rest_of}
 use Rattle.replica.specs.Conn.{NextEnds}
 use Rattle.replica.specs.Sent.{Sent}
 use Rattle.replica.specs.Standing.{Parts, Position, parts_of, sends_on, Stands, offset_of, MovesOn}
@@ -61,7 +62,7 @@ module _ (parts : Parts) (names : Names) (pos : Position) (is : Bool) (now : Con
   pub log_ends : (end : ℕ) → end ≡ parts.at + length h.reading.rest → end < 2 ^ 64 → Rattle.greet.specs.Message.IsEofPacket p → HasEnded parts.settings names pos is now (record { reason = SourceEof; at = end; applied = parts.applied })
   log_ends end end_is within eof =
       let r = h.reading in
-      let log : EndsLog parts.settings.limit names (due_after r.payloads) r.events (length r.front) r.id r.rest end = record {
+      let log : EndsLog (rest_of r) end = record {
         payload = p;
         stops = stops parts names pos is now p h (omega (arith, end_is, within));
         in_dump = in_the_dump;
@@ -77,7 +78,7 @@ module _ (parts : Parts) (names : Names) (pos : Position) (is : Bool) (now : Con
 
   -- its payload is not the expected message
   pub denied_ends : (reason : Reason) → parts.at + length h.reading.rest < 2 ^ 64 → Denies names InDump h.reading.events p reason
-      → Rattle.replica.specs.End.EndsWith parts.settings.limit names (due_after h.reading.payloads) h.reading.events (length h.reading.front) h.reading.id h.reading.rest reason
+      → Rattle.replica.specs.End.EndsWith (rest_of h.reading) reason
   denied_ends reason within denied = record {
     payload = p;
     stops = stops parts names pos is now p h within;
@@ -216,16 +217,16 @@ module _ {S : Type 0} (g : Ghosts S) (settled : (h : Held S) (db : Trees) → Is
           leaves_only after schema m.now (IsLeftOfOne new.config.limit store.following pos.old pos.read m.now e) (subst (λ i. HoldsAs g i m.now after) is_whole rests.holds) (same is_whole) (inl refl))
 
       stopped : (reason : Reason) (broken : Bool) → reason ≢ EndOfInput
-          → Why s.config.limit store.following (due_after m.meets.reading.payloads) m.meets.reading.events m.meets.reading.deliveries (length m.meets.reading.front) m.meets.reading.id m.meets.reading.rest pos.was pos.old m.now s.at reason
+          → Why (rest_of m.meets.reading) m.meets.reading.deliveries pos.was pos.old m.now s.at reason
           → BreaksStore reason pos.was broken → HasEnded s.config store.following (sends_on pos s.out.items) broken m.now (record { reason = reason; at = s.at; applied = s.applied })
       stopped reason broken more why breaks = ended (parts_of s) store.following (sends_on pos s.out.items) m.is m.now p m.meets reason broken more why breaks
 
       denied : (reason : Reason) → Denies store.following InDump m.meets.reading.events p reason
-          → Rattle.replica.specs.End.EndsWith s.config.limit store.following (due_after m.meets.reading.payloads) m.meets.reading.events (length m.meets.reading.front) m.meets.reading.id m.meets.reading.rest reason
+          → Rattle.replica.specs.End.EndsWith (rest_of m.meets.reading) reason
       denied reason d = denied_ends (parts_of s) store.following (sends_on pos s.out.items) m.is m.now p m.meets dump reason room d
 
       next_ends : (d : DeliveryValue) → EndsOne g m.is m.now m.meets.reading.events m.meets.reading.deliveries p store after d
-          → NextEnds s.config.limit store.following (due_after m.meets.reading.payloads) m.meets.reading.events m.meets.reading.deliveries (length m.meets.reading.front) m.meets.reading.id m.meets.reading.rest d
+          → NextEnds (rest_of m.meets.reading) m.meets.reading.deliveries d
       next_ends d e = record {
         payload = p;
         stops = stops (parts_of s) store.following (sends_on pos s.out.items) m.is m.now p m.meets room;

@@ -1,8 +1,8 @@
 -- What ends a connection still ends it when more bytes follow.
-use Rattle.replica.proofs.Names.{◌≡◌, ◌≢◌, ℕ, Bool, List, ◌++◌, length, refl, ap, ◌∙◌, inl, inr, append_assoc, WireFault, Ids, Names, EventValue, DeliveryValue, Content, Reason, EndOfInput, SourceEof, SourceError, Wire, Greet, Event, Gather, Refused, Database, Memory, ReadFailed, WriteFailed, Halted, Until, Ended, Settings, Due, Reading, due_after, Payload, HasNext, StopsAt, EndsLog, StopsFor, IsWrong, Why, Conn, SentFor, IsLeftOfOne}
+use Rattle.replica.proofs.Names.{◌≡◌, ◌≢◌, ℕ, Bool, List, ◌++◌, refl, ap, ◌∙◌, inl, inr, append_assoc, WireFault, Ids, Names, DeliveryValue, Content, Reason, EndOfInput, SourceEof, SourceError, Wire, Greet, Event, Gather, Refused, Database, Memory, ReadFailed, WriteFailed, Halted, Until, Ended, Settings, Reading, Payload, HasNext, StopsAt, EndsLog, StopsFor, IsWrong, Why, Conn, SentFor, IsLeftOfOne}
 use Rattle.wire.specs.declared.fault.WireFault.TheVariants as wire
 use Rattle.wire.proofs.OneReading.{more_wrong, more_large}
-use Rattle.replica.specs.End.{PassesEnd, EndsWith}
+use Rattle.replica.specs.End.{Rest, rest_of, PassesEnd, EndsWith}
 use Rattle.replica.specs.Conn.{NextEnds, NextAnswers}
 use Rattle.replica.specs.Sent.{Taken}
 use Rattle.replica.specs.Crash.{IsOneMore}
@@ -32,27 +32,31 @@ wrong-append id limit r more wire.TooLarge w = more_large more w
 wrong-append id limit r more wire.Memory w = absurd w
 wrong-append id limit r more wire.Ended w = absurd w
 
-module _ (limit : ℕ) (names : Names) (due : Due) (es : List EventValue) (taken id : ℕ) (r more : List ℕ) where
-  abbrev pub at-append : (p : Payload) → StopsAt limit names due es taken id r p → StopsAt limit names due es taken id (r ++ more) p
-  at-append p s = record { next = next-append limit id r p more s.next; within = s.within }
+module _ (rest : Rest) (more : List ℕ) where
+  -- the same with more bytes
+  abbrev pub with_more : Rest
+  with_more = record rest { bytes = rest.bytes ++ more }
 
-  passes-append : PassesEnd limit names due es taken id r → PassesEnd limit names due es taken id (r ++ more)
-  passes-append s = record { payload = s.payload; next = next-append limit id r s.payload more s.next; beyond = s.beyond }
+  abbrev pub at-append : (p : Payload) → StopsAt rest p → StopsAt with_more p
+  at-append p s = record { next = next-append rest.limit rest.id rest.bytes p more s.next; within = s.within }
 
-  pub log-append : (at : ℕ) → EndsLog limit names due es taken id r at → EndsLog limit names due es taken id (r ++ more) at
+  passes-append : PassesEnd rest → PassesEnd with_more
+  passes-append s = record { payload = s.payload; next = next-append rest.limit rest.id rest.bytes s.payload more s.next; beyond = s.beyond }
+
+  pub log-append : (at : ℕ) → EndsLog rest at → EndsLog with_more at
   log-append at s = record { payload = s.payload; stops = at-append s.payload s.stops; in_dump = s.in_dump; is_eof = s.is_eof; at_is = s.at_is }
 
-  with-append : (reason : Reason) → EndsWith limit names due es taken id r reason → EndsWith limit names due es taken id (r ++ more) reason
+  with-append : (reason : Reason) → EndsWith rest reason → EndsWith with_more reason
   with-append reason s = record { payload = s.payload; stops = at-append s.payload s.stops; denied = s.denied }
 
-  pub stops-append : (at : ℕ) (reason : Reason) → reason ≢ EndOfInput → StopsFor limit names due es taken id r at reason → StopsFor limit names due es taken id (r ++ more) at reason
+  pub stops-append : (at : ℕ) (reason : Reason) → reason ≢ EndOfInput → StopsFor rest at reason → StopsFor with_more at reason
   stops-append at EndOfInput h s = absurd (h refl)
   stops-append at SourceEof h s = log-append at s
   stops-append at (SourceError code state message) h s = (s.0, with-append (SourceError code state message) s.1)
   stops-append at (Wire fault) h s = (
     s.0,
     elim s.1 [
-      | inl w ↦ inl (wrong-append id limit r more fault w)
+      | inl w ↦ inl (wrong-append rest.id rest.limit rest.bytes more fault w)
       | inr e ↦ inr (e.0, passes-append e.1)
     ],
   )
@@ -62,13 +66,13 @@ module _ (limit : ℕ) (names : Names) (due : Due) (es : List EventValue) (taken
   stops-append at _ h s = s
 
   module _ (ds : List DeliveryValue) where
-    pub ends-append : (d : DeliveryValue) → NextEnds limit names due es ds taken id r d → NextEnds limit names due es ds taken id (r ++ more) d
+    pub ends-append : (d : DeliveryValue) → NextEnds rest ds d → NextEnds with_more ds d
     ends-append d n = record { payload = n.payload; stops = at-append n.payload n.stops; in_dump = n.in_dump; event = n.event; carries = n.carries; delivers = n.delivers }
 
-    answers-append : NextAnswers limit names due es ds taken id r → NextAnswers limit names due es ds taken id (r ++ more)
+    answers-append : NextAnswers rest ds → NextAnswers with_more ds
     answers-append n = record { payload = n.payload; stops = at-append n.payload n.stops; due_is = n.due_is; is_ok = n.is_ok }
 
-    pub why-append : (was : Bool) (old new : Content) (at : ℕ) (reason : Reason) → reason ≢ EndOfInput → Why limit names due es ds taken id r was old new at reason → Why limit names due es ds taken id (r ++ more) was old new at reason
+    pub why-append : (was : Bool) (old new : Content) (at : ℕ) (reason : Reason) → reason ≢ EndOfInput → Why rest ds was old new at reason → Why with_more ds was old new at reason
     why-append was old new at EndOfInput h w = absurd (h refl)
     why-append was old new at (Wire fault) h w = elim w [
       | inl s ↦ inl (stops-append at (Wire fault) h s)
@@ -90,7 +94,7 @@ conn-append limit names was old b more new end h c =
     record {
       reading = extended limit names b more r;
       has_applied = c.has_applied;
-      why = why-append limit names (due_after r.payloads) r.events (length r.front) r.id r.rest more r.deliveries was old new end.at end.reason h c.why;
+      why = why-append (rest_of r) more r.deliveries was old new end.at end.reason h c.why;
       kept = c.kept;
     }
 
@@ -102,7 +106,7 @@ taken-append limit names b more at payloads t =
       payloads_are = t.payloads_are;
       at_is = elim t.at_is [
         | inl h ↦ inl h
-        | inr h ↦ inr (log-append limit names (due_after r.payloads) r.events (length r.front) r.id r.rest more at h)
+        | inr h ↦ inr (log-append (rest_of r) more at h)
       ];
     }
 
@@ -120,7 +124,7 @@ one_more-append limit names old b more new end left m =
       at_is = m.at_is;
       has_applied = m.has_applied;
       next = m.next;
-      ends = ends-append limit names (due_after r.payloads) r.events (length r.front) r.id r.rest more r.deliveries m.next m.ends;
+      ends = ends-append (rest_of r) more r.deliveries m.next m.ends;
       outcome = m.outcome;
     }
 

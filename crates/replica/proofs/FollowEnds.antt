@@ -1,11 +1,12 @@
 -- How following a stream ends.
-use Rattle.replica.proofs.Names.{◌≤◌, ◌≡◌, ◌≢◌, ℕ, ◌+◌, arith, take, unwrap_or, MatchOption, Bool, true, false, List, [], ◌++◌, length, Option, refl, sym, ap, ◌∙◌, inl, inr, subst, IsTrue, append_assoc, append-nil, Some, None, is_some, Appends, Consumes, Keeps, Consumes-nil, Ghosts, Trees, Held, Schema, Names, EventValue, DeliveryValue, Content, Store, HoldsAs, database, Reason, EndOfInput, SourceEof, Wire, Database, Memory, ReadFailed, WriteFailed, Halted, Until, Ended, Session, Settings, Due, Reading, due_after, Why, Conn, BreaksStore, IsNoStreamFailure, reported_as, IsLeftOfOne, SentFor, GoesOn, HasEnded, end_of, room_of, StandsOver, LeavesOnly, IsInFull}
+use Rattle.replica.proofs.Names.{◌≤◌, ◌≡◌, ◌≢◌, ℕ, ◌+◌, arith, take, unwrap_or, MatchOption, Bool, true, false, List, [], ◌++◌, length, Option, refl, sym, ap, ◌∙◌, inl, inr, subst, IsTrue, append_assoc, append-nil, Some, None, is_some, Appends, Consumes, Keeps, Consumes-nil, Ghosts, Trees, Held, Schema, Names, DeliveryValue, Content, Store, HoldsAs, database, Reason, EndOfInput, SourceEof, Wire, Database, Memory, ReadFailed, WriteFailed, Halted, Until, Ended, Session, Settings, Reading, Why, Conn, BreaksStore, IsNoStreamFailure, reported_as, IsLeftOfOne, SentFor, GoesOn, HasEnded, end_of, room_of, StandsOver, LeavesOnly, IsInFull}
 use Rattle.std.proofs.Common.{drop, option_map, Bor}
 use Rattle.std.specs.Io.KnownBytes.{IsAtEnd}
 use Rattle.std.proofs.Math.Seq.{take-append_seam}
 use Rattle.std.proofs.KnownBytes.{Appends-trans, Appends-kept, Consumes-trans, Consumes-kept, Appends-nil}
 use Rattle.sqlite.specs.Held.{state}
-use Rattle.replica.specs.Conn.{EndsInLast}
+use Rattle.replica.specs.End.{Rest, rest_of}
+use Rattle.replica.specs.Conn.{EndsInLast, StoreState}
 use Rattle.replica.specs.Standing.{Position, parts_of, from_start, sends_on, Stands}
 use Rattle.replica.specs.Over.{HasRead}
 use Rattle.replica.specs.Follow.{Exchange, IsOfStream, MaySendLess, Follows, IsFollowing, HandsOut, piece_length, sends_no_more_after, turns_left, while_going}
@@ -54,9 +55,9 @@ reported_late WriteFailed was is s h = h
 reported_late Until was is s h = h
 reported_late _ was is s h = absurd s
 
-module _ (limit : ℕ) (names : Names) (due : Due) (es : List EventValue) (ds : List DeliveryValue) (taken id : ℕ) (rest : List ℕ) (was : Bool) (old new : Content) (at : ℕ) where
+module _ (rest : Rest) (ds : List DeliveryValue) (was : Bool) (old new : Content) (at : ℕ) where
   abbrev pub why : Reason → Type 0
-  why reason = Why limit names due es ds taken id rest was old new at reason
+  why reason = Why rest ds was old new at reason
 
   -- the reason of an ended connection may be replaced by a failed write
   pub why_write_failed : (reason : Reason) → IsInFull reason → why reason → why WriteFailed
@@ -80,12 +81,12 @@ module _ (limit : ℕ) (names : Names) (due : Due) (es : List EventValue) (ds : 
   why_until : (reason : Reason) → reason ≡ EndOfInput → why reason → why Until
   why_until reason h w = (subst (λ (v : Reason). why v) h w).0
 
--- for each reading of the bytes, one reason implies the other
-abbrev pub Retells : ℕ → Names → Bool → Content → List ℕ → Content → ℕ → Reason → Reason → Type 0
-Retells limit names was old b new at reason other =
-    (r : Reading limit names b) → why limit names (due_after r.payloads) r.events r.deliveries (length r.front) r.id r.rest was old new at reason → why limit names (due_after r.payloads) r.events r.deliveries (length r.front) r.id r.rest was old new at other
+-- for each reading of the bytes, the reason of the end implies another one
+abbrev pub Retells : ℕ → Names → StoreState → List ℕ → Content → Ended → Reason → Type 0
+Retells limit names before b new end other =
+    (r : Reading limit names b) → why (rest_of r) r.deliveries before.broken before.content new end.at end.reason → why (rest_of r) r.deliveries before.broken before.content new end.at other
 
-conn-ended_with : (limit : ℕ) (names : Names) (was : Bool) (old : Content) (b : List ℕ) (new : Content) (end : Ended) (reason : Reason) → Retells limit names was old b new end.at end.reason reason
+conn-ended_with : (limit : ℕ) (names : Names) (was : Bool) (old : Content) (b : List ℕ) (new : Content) (end : Ended) (reason : Reason) → Retells limit names (record { broken = was; content = old }) b new end reason
     → Conn limit names was old b new end → Conn limit names was old b new (reported_as reason end)
 conn-ended_with limit names was old b new end reason f c = record {
   reading = c.reading;
@@ -96,7 +97,7 @@ conn-ended_with limit names was old b new end reason f c = record {
 
 module _ {S : Type 0} (g : Ghosts S) where
   ended_with : (limit : ℕ) (before store : Store S g) (was : Bool) (old : Content) (b : List ℕ) (end : Ended) (reason : Reason) → IsInFull end.reason → IsLate reason
-      → ((new : Content) → Retells limit before.following was old b new end.at end.reason reason) → HasRead g limit before store was old b end → HasRead g limit before store was old b (reported_as reason end)
+      → ((new : Content) → Retells limit before.following (record { broken = was; content = old }) b new end reason) → HasRead g limit before store was old b end → HasRead g limit before store was old b (reported_as reason end)
   ended_with limit before store was old b end reason full late f r = record {
     is = r.is;
     new = r.new;
@@ -154,7 +155,7 @@ module _ {S : Type 0} (g : Ghosts S) where
           last = f.last;
           unended = λ h. let no : Memory ≡ ReadFailed = h in cc;
           has_read = ended_with session.config.limit before store was old f.read end Memory full tt
-              (λ new r w. why_memory session.config.limit before.following (due_after r.payloads) r.events r.deliveries (length r.front) r.id r.rest was old new end.at end.reason e w) has_read;
+              (λ new r w. why_memory (rest_of r) r.deliveries was old new end.at end.reason e w) has_read;
           in_full = λ h. absurd h;
           all_read = λ bad. let no : Memory ≡ EndOfInput = bad in cc;
           is_due = is_due;
@@ -175,7 +176,7 @@ module _ {S : Type 0} (g : Ghosts S) where
           last = f.last;
           unended = λ h. let no : Until ≡ ReadFailed = h in cc;
           has_read = ended_with session.config.limit before store was old f.read end Until full tt
-              (λ new r w. why_until session.config.limit before.following (due_after r.payloads) r.events r.deliveries (length r.front) r.id r.rest was old new end.at end.reason e w) has_read;
+              (λ new r w. why_until (rest_of r) r.deliveries was old new end.at end.reason e w) has_read;
           in_full = λ h. absurd h;
           all_read = λ bad. let no : Until ≡ EndOfInput = bad in cc;
           is_due = is_due;
@@ -229,7 +230,7 @@ module _ {S : Type 0} (g : Ghosts S) where
             last = f.last;
             unended = λ h. let no : WriteFailed ≡ ReadFailed = h in cc;
             has_read = ended_with session.config.limit before store was old f.read end WriteFailed full tt
-                (λ new r w. why_write_failed session.config.limit before.following (due_after r.payloads) r.events r.deliveries (length r.front) r.id r.rest was old new end.at end.reason full w) has_read;
+                (λ new r w. why_write_failed (rest_of r) r.deliveries was old new end.at end.reason full w) has_read;
             in_full = λ h. (end.reason, full, has_read.conn);
             all_read = λ e. let bad : WriteFailed ≡ EndOfInput = e in cc;
             is_due = is_due';
@@ -270,9 +271,9 @@ module _ {S : Type 0} (g : Ghosts S) where
               writes = writes';
               last = f.last;
               unended = λ h. conn-ended_with session.config.limit before.following was old f.read has_read.new end EndOfInput
-                  (λ r w. subst (λ (v : Reason). why session.config.limit before.following (due_after r.payloads) r.events r.deliveries (length r.front) r.id r.rest was old has_read.new end.at v) e w) has_read.conn;
+                  (λ r w. subst (λ (v : Reason). why (rest_of r) r.deliveries was old has_read.new end.at v) e w) has_read.conn;
               has_read = ended_with session.config.limit before store was old f.read end ReadFailed full tt
-                  (λ new r w. why_read_failed session.config.limit before.following (due_after r.payloads) r.events r.deliveries (length r.front) r.id r.rest was old new end.at end.reason e w) has_read;
+                  (λ new r w. why_read_failed (rest_of r) r.deliveries was old new end.at end.reason e w) has_read;
               in_full = λ h. (end.reason, full, has_read.conn);
               all_read = λ bad. let no : ReadFailed ≡ EndOfInput = bad in cc;
               is_due = sent';

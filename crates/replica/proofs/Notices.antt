@@ -9,6 +9,7 @@ use Rattle.store.specs.Store.{Holds}
 use Rattle.sqlite.specs.Held.{state}
 use Rattle.replica.proofs.Transactions.{all_one}
 use Rattle.replica.proofs.MissingSets.{none_left, none_removed}
+use Rattle.replica.specs.Conn.{StoreState}
 use Rattle.replica.specs.Noted.{opened, before, after, HasBeenNoted, asked_about, ends_in, has_stop, has_last, LetsNone, HasNoNotice, IsNotedOf, IsLedTo, missing_after, AreMissed, NextFails}
 
 pub noted_none : (noted : Option (List Notice)) → HasBeenNoted noted noted []
@@ -328,18 +329,18 @@ since_on names old mid new t0 t1 t2 ends more going a b missed fails = record {
   fails = fails;
 }
 
--- What leads from one store to another, by the tables of a filter.
-record Leads {S : Type 0} (g : Ghosts S) (names : Names) (before after : Store S g) (broken : Bool) (old : Content) (was is : Account) (ends : List Ended) : Type 0 where
-  pub now_broken : Bool
-  pub new : Content
-  pub holds : HoldsAs g now_broken new after
-  pub noted_of : IsNotedOf names old new was is ends
-  pub still : broken ≡ true → (after ≡ before) × (now_broken ≡ true) × (applied_in noted_of.notices ≡ [])
-  pub breaks : has_failure noted_of.notices ≡ true → now_broken ≡ true
-  pub fails : EndsAtFailure noted_of.notices
-  pub leaves : broken ≡ false → now_broken ≡ true → (schema : Schema) × LeavesOnly g schema after (IsLeftOfNoted names noted_of.notices new)
-
 module _ {S : Type 0} (g : Ghosts S) where
+  -- What leads from one store to another, by the tables of a filter.
+  record Leads (names : Names) (before after : Store S g) (held : StoreState) (was is : Account) (ends : List Ended) : Type 0 where
+    pub now_broken : Bool
+    pub new : Content
+    pub holds : HoldsAs g now_broken new after
+    pub noted_of : IsNotedOf names held.content new was is ends
+    pub still : held.broken ≡ true → (after ≡ before) × (now_broken ≡ true) × (applied_in noted_of.notices ≡ [])
+    pub breaks : has_failure noted_of.notices ≡ true → now_broken ≡ true
+    pub fails : EndsAtFailure noted_of.notices
+    pub leaves : held.broken ≡ false → now_broken ≡ true → (schema : Schema) × LeavesOnly g schema after (IsLeftOfNoted names noted_of.notices new)
+
   pub weaker_leaves : (schema : Schema) (store : Store S g) (P Q : Content → Type 0) → ((left : Content) → P left → Q left) → LeavesOnly g schema store P → LeavesOnly g schema store Q
   weaker_leaves schema store P Q more it = record { each = λ trees may. let l = it.each trees may in (l.0, l.1, more l.0 l.2) }
 
@@ -359,7 +360,7 @@ module _ {S : Type 0} (g : Ghosts S) where
   led_nowhere broken old store was is holds noticed =
       quiet broken old store was is [] (record { now_broken = broken; new = old; holds = holds; noted_of = nothing_noted store.following old was is noticed }) refl refl refl tt
 
-  abbrev to_leads : (broken : Bool) (old : Content) (first last : Store S g) (was is : Account) (ends : List Ended) → IsLedOver g first last broken old was is ends → Leads g first.following first last broken old was is ends
+  abbrev to_leads : (broken : Bool) (old : Content) (first last : Store S g) (was is : Account) (ends : List Ended) → IsLedOver g first last broken old was is ends → Leads first.following first last (record { broken = broken; content = old }) was is ends
   to_leads broken old first last was is ends a = record {
     now_broken = a.led.now_broken;
     new = a.led.new;
@@ -371,7 +372,7 @@ module _ {S : Type 0} (g : Ghosts S) where
     leaves = a.leaves;
   }
 
-  of_leads : (broken : Bool) (old : Content) (first last : Store S g) (was is : Account) (ends : List Ended) → Leads g first.following first last broken old was is ends → IsLedOver g first last broken old was is ends
+  of_leads : (broken : Bool) (old : Content) (first last : Store S g) (was is : Account) (ends : List Ended) → Leads first.following first last (record { broken = broken; content = old }) was is ends → IsLedOver g first last broken old was is ends
   of_leads broken old first last was is ends a = record {
     led = record { now_broken = a.now_broken; new = a.new; holds = a.holds; noted_of = a.noted_of };
     still = a.still;
@@ -403,13 +404,13 @@ module _ {S : Type 0} (g : Ghosts S) where
         )
   ]
 
-  leads_then : (names : Names) (broken : Bool) (old : Content) (first middle last : Store S g) (t0 t1 t2 : Account) (ends more : List Ended) → (ends ≢ [] → t1.has_stopped ≡ false)
-      → (a : Leads g names first middle broken old t0 t1 ends) → Leads g names middle last a.now_broken a.new t1 t2 more → Leads g names first last broken old t0 t2 (ends ++ more)
-  leads_then names broken old first middle last t0 t1 t2 ends more going a b = record {
+  leads_then : (names : Names) (held : StoreState) (first middle last : Store S g) (t0 t1 t2 : Account) (ends more : List Ended) → (ends ≢ [] → t1.has_stopped ≡ false)
+      → (a : Leads names first middle held t0 t1 ends) → Leads names middle last (record { broken = a.now_broken; content = a.new }) t1 t2 more → Leads names first last held t0 t2 (ends ++ more)
+  leads_then names held first middle last t0 t1 t2 ends more going a b = record {
     now_broken = b.now_broken;
     new = b.new;
     holds = b.holds;
-    noted_of = noted_on names old a.new b.new t0 t1 t2 ends more going a.noted_of b.noted_of;
+    noted_of = noted_on names held.content a.new b.new t0 t1 t2 ends more going a.noted_of b.noted_of;
     still = λ was_so.
         let one = a.still was_so in
         let two = b.still one.1 in
@@ -422,9 +423,9 @@ module _ {S : Type 0} (g : Ghosts S) where
   pub led_through : (broken : Bool) (old : Content) (first middle last : Store S g) (t0 t1 t2 : Account) (ends more : List Ended) → middle.following ≡ first.following → (ends ≢ [] → t1.has_stopped ≡ false)
       → IsLedOver g first middle broken old t0 t1 ends → ((is : Bool) (now : Content) → HoldsAs g is now middle → IsLedOver g middle last is now t1 t2 more) → IsLedOver g first last broken old t0 t2 (ends ++ more)
   led_through broken old first middle last t0 t1 t2 ends more same going a next =
-      let b : Leads g first.following middle last a.led.now_broken a.led.new t1 t2 more =
-      subst (λ n. Leads g n middle last a.led.now_broken a.led.new t1 t2 more) same (to_leads a.led.now_broken a.led.new middle last t1 t2 more (next a.led.now_broken a.led.new a.led.holds)) in
-      of_leads broken old first last t0 t2 (ends ++ more) (leads_then first.following broken old first middle last t0 t1 t2 ends more going (to_leads broken old first middle t0 t1 ends a) b)
+      let b : Leads first.following middle last (record { broken = a.led.now_broken; content = a.led.new }) t1 t2 more =
+      subst (λ n. Leads n middle last (record { broken = a.led.now_broken; content = a.led.new }) t1 t2 more) same (to_leads a.led.now_broken a.led.new middle last t1 t2 more (next a.led.now_broken a.led.new a.led.holds)) in
+      of_leads broken old first last t0 t2 (ends ++ more) (leads_then first.following (record { broken = broken; content = old }) first middle last t0 t1 t2 ends more going (to_leads broken old first middle t0 t1 ends a) b)
 
   -- the executed set of a store that was opened
   pub since_from : (broken : Bool) (old : Content) (store : Store S g) (ids : Ids) (was is : Account) → HoldsAs g broken old store → ids ≡ old.executed → HasNotices was is (opened ids ∷ []) → IsLedSinceOpening g store store broken old was is []
@@ -456,8 +457,8 @@ module _ {S : Type 0} (g : Ghosts S) where
       → IsLedSinceOpening g first middle broken old t0 t1 ends → ((is : Bool) (now : Content) → HoldsAs g is now middle → IsLedOver g middle last is now t1 t2 more) → (ends ++ more ≢ [] → WasMissing t0.waits t2.waits old.executed)
       → IsLedSinceOpening g first last broken old t0 t2 (ends ++ more)
   since_through broken old first middle last t0 t1 t2 ends more same going a next missed =
-      let b : Leads g first.following middle last a.now_broken a.new t1 t2 more =
-      subst (λ n. Leads g n middle last a.now_broken a.new t1 t2 more) same (to_leads a.now_broken a.new middle last t1 t2 more (next a.now_broken a.new a.holds)) in
+      let b : Leads first.following middle last (record { broken = a.now_broken; content = a.new }) t1 t2 more =
+      subst (λ n. Leads n middle last (record { broken = a.now_broken; content = a.new }) t1 t2 more) same (to_leads a.now_broken a.new middle last t1 t2 more (next a.now_broken a.new a.holds)) in
       let xs = a.noted_of.noted_of.notices in
       let ys = b.noted_of.notices in
       record {

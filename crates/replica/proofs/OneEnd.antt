@@ -24,7 +24,7 @@ use Rattle.gather.proofs.ShorterLists.{beginning}
 use Rattle.replica.specs.Message.{IsOfMessage}
 use Rattle.replica.specs.Report.{Report, Verdict, report_of, reported_refusal}
 use Rattle.replica.specs.Report as reported
-use Rattle.replica.specs.End.{PassesEnd, EndsWith}
+use Rattle.replica.specs.End.{Rest, rest_of, PassesEnd, EndsWith}
 use Rattle.replica.proofs.Bytes.{all_front, all_back, packed_bytes}
 
 -- ---- What a payload carries.
@@ -68,36 +68,56 @@ in_dump names _ p es h a = absurd h
 
 -- ---- Two readings of the same bytes.
 
--- After this prefix x with these events, the other reading y goes on with a payload.
-pub record Further (limit : ℕ) (names : Names) (due : Due) (id : ℕ) (x : List ℕ) (es : List EventValue) (r y : List ℕ) (fs : List EventValue) : Type 0 where
+-- what was read of bytes, and what remains: the payloads, the bytes that pack them, their events, the sequence id of the next
+-- packing, and the remaining bytes
+pub record Part : Type 0 where
+  pub payloads : List Payload
+  pub front : List ℕ
+  pub events : List EventValue
+  pub id : ℕ
+  pub rest : List ℕ
+
+abbrev pub part_of : {limit : ℕ} {names : Names} {b : List ℕ} → Reading limit names b → Part
+part_of r = record { payloads = r.payloads; front = r.front; events = r.events; id = r.id; rest = r.rest }
+
+-- what follows such a part that begins where this message is expected
+abbrev pub after_part : ℕ → Names → Due → Part → Rest
+after_part limit names due x = record { limit = limit; names = names; due = due_from due x.payloads; events = x.events; taken = length x.front; id = x.id; bytes = x.rest }
+
+-- Where these bytes remain, the other reading, of the bytes y with the events fs, goes on with a payload.
+pub record Further (rest : Rest) (y : List ℕ) (fs : List EventValue) : Type 0 where
   pub payload : Payload
   pub packing : List ℕ
   pub left : List ℕ
   pub after : ℕ
   pub first : List EventValue
   pub others : List EventValue
-  pub whole : IsWholePayload id limit packing payload after
-  pub rest_is : r ≡ packing ++ left
-  pub answers : Answers names due payload first
-  pub within : length x + length packing ≤ length y
-  pub events : fs ≡ es ++ (first ++ others)
+  pub whole : IsWholePayload rest.id rest.limit packing payload after
+  pub rest_is : rest.bytes ≡ packing ++ left
+  pub answers : Answers rest.names rest.due payload first
+  pub within : rest.taken + length packing ≤ length y
+  pub events : fs ≡ rest.events ++ (first ++ others)
 
-pub record Ahead (limit : ℕ) (names : Names) (due : Due) (ps : List Payload) (x : List ℕ) (es : List EventValue) (m : ℕ) (r : List ℕ) (qs : List Payload) (y : List ℕ) (fs : List EventValue) : Type 0 where
-  pub further : Further limit names (due_from due ps) m x es r y fs
-  pub fewer : length ps < length qs
+-- the part y goes on after the part x
+pub record Ahead (limit : ℕ) (names : Names) (due : Due) (x y : Part) : Type 0 where
+  pub further : Further (after_part limit names due x) y.front y.events
+  pub fewer : length x.payloads < length y.payloads
   pub next : Payload
   pub more : List Payload
-  pub payloads : qs ≡ ps ++ (next ∷ more)
+  pub payloads : y.payloads ≡ x.payloads ++ (next ∷ more)
 
-pub record Same (ps : List Payload) (x : List ℕ) (es : List EventValue) (m : ℕ) (r : List ℕ) (qs : List Payload) (y : List ℕ) (fs : List EventValue) (n : ℕ) (s : List ℕ) : Type 0 where
-  pub payloads : ps ≡ qs
-  pub front : x ≡ y
-  pub events : es ≡ fs
-  pub id : m ≡ n
-  pub rest : r ≡ s
+pub record Same (x y : Part) : Type 0 where
+  pub payloads : x.payloads ≡ y.payloads
+  pub front : x.front ≡ y.front
+  pub events : x.events ≡ y.events
+  pub id : x.id ≡ y.id
+  pub rest : x.rest ≡ y.rest
 
-abbrev pub Compared : ℕ → Names → Due → List Payload → List ℕ → List EventValue → ℕ → List ℕ → List Payload → List ℕ → List EventValue → ℕ → List ℕ → Type 0
-Compared limit names due ps x es m r qs y fs n s = Same ps x es m r qs y fs n s ⊎ (Ahead limit names due ps x es m r qs y fs ⊎ Ahead limit names due qs y fs n s ps x es)
+abbrev pub Compared : ℕ → Names → Due → Part → Part → Type 0
+Compared limit names due x y = Same x y ⊎ (Ahead limit names due x y ⊎ Ahead limit names due y x)
+
+pub same_part : (x y : Part) → Same x y → x ≡ y
+same_part x y e = λ i. record { payloads = e.payloads i; front = e.front i; events = e.events i; id = e.id i; rest = e.rest i }
 
 longer : (x x1 x2 y y1 y2 z : List ℕ) → x ≡ x1 ++ x2 → y ≡ y1 ++ y2 → x1 ≡ y1 → length x2 + length z ≤ length y2 → length x + length z ≤ length y
 longer x x1 x2 y y1 y2 z xs ys e h =
@@ -106,9 +126,9 @@ longer x x1 x2 y y1 y2 z xs ys e h =
     let c : length x1 ≡ length y1 = ap length e in
     omega arith
 
-grow : (limit : ℕ) (names : Names) (due : Due) (m : ℕ) (x x1 x2 y y1 y2 r : List ℕ) (es e1 e2 fs f1 f2 : List EventValue) → x ≡ x1 ++ x2 → y ≡ y1 ++ y2 → x1 ≡ y1 → es ≡ e1 ++ e2 → fs ≡ f1 ++ f2 → e1 ≡ f1
-    → Further limit names due m x2 e2 r y2 f2 → Further limit names due m x es r y fs
-grow limit names due m x x1 x2 y y1 y2 r es e1 e2 fs f1 f2 xs ys front esplit fsplit first f = record {
+grow : (rest : Rest) (x x1 x2 y y1 y2 : List ℕ) (e1 e2 fs f1 f2 : List EventValue) → rest.taken ≡ length x → x ≡ x1 ++ x2 → y ≡ y1 ++ y2 → x1 ≡ y1 → rest.events ≡ e1 ++ e2 → fs ≡ f1 ++ f2 → e1 ≡ f1
+    → Further (record rest { taken = length x2; events = e2 }) y2 f2 → Further rest y fs
+grow rest x x1 x2 y y1 y2 e1 e2 fs f1 f2 taken xs ys front esplit fsplit first f = record {
   payload = f.payload;
   packing = f.packing;
   left = f.left;
@@ -118,12 +138,13 @@ grow limit names due m x x1 x2 y y1 y2 r es e1 e2 fs f1 f2 xs ys front esplit fs
   whole = f.whole;
   rest_is = f.rest_is;
   answers = f.answers;
-  within = longer x x1 x2 y y1 y2 f.packing xs ys front f.within;
+  within = subst (λ n. n + length f.packing ≤ length y) (sym taken) (longer x x1 x2 y y1 y2 f.packing xs ys front f.within);
   events = fsplit ∙ ap (λ l. f1 ++ l) f.events ∙ ap (λ l. l ++ (e2 ++ (f.first ++ f.others))) (sym first) ∙ sym (append_assoc e1 e2 (f.first ++ f.others)) ∙ ap (λ l. l ++ (f.first ++ f.others)) (sym esplit);
 }
 
 ahead : (limit : ℕ) (names : Names) (due : Due) (id m : ℕ) (x : List ℕ) (es : List EventValue) (r : List ℕ) (q : Payload) (qs : List Payload) (y : List ℕ) (fs : List EventValue) (n : ℕ) (s : List ℕ)
-    → Talks limit names due id [] x es m → Talks limit names due id (q ∷ qs) y fs n → x ++ r ≡ y ++ s → Ahead limit names due [] x es m r (q ∷ qs) y fs
+    → Talks limit names due id [] x es m → Talks limit names due id (q ∷ qs) y fs n → x ++ r ≡ y ++ s
+    → Ahead limit names due (record { payloads = []; front = x; events = es; id = m; rest = r }) (record { payloads = q ∷ qs; front = y; events = fs; id = n; rest = s })
 ahead limit names due id m x es r q qs y fs n s a b h = record {
   further = record {
     payload = q;
@@ -149,7 +170,8 @@ ahead limit names due id m x es r q qs y fs n s a b h = record {
 }
 
 compare : (limit : ℕ) (names : Names) (due : Due) (id : ℕ) (ps : List Payload) (x : List ℕ) (es : List EventValue) (m : ℕ) (r : List ℕ) (qs : List Payload) (y : List ℕ) (fs : List EventValue) (n : ℕ) (s : List ℕ)
-    → Talks limit names due id ps x es m → Talks limit names due id qs y fs n → x ++ r ≡ y ++ s → Compared limit names due ps x es m r qs y fs n s
+    → Talks limit names due id ps x es m → Talks limit names due id qs y fs n → x ++ r ≡ y ++ s
+    → Compared limit names due (record { payloads = ps; front = x; events = es; id = m; rest = r }) (record { payloads = qs; front = y; events = fs; id = n; rest = s })
 compare limit names due id [] x es m r [] y fs n s a b h = inl (record {
   payloads = refl;
   front = a.0 ∙ sym b.0;
@@ -176,15 +198,15 @@ compare limit names due id (p ∷ ps) x es m r (q ∷ qs) y fs n s a b h =
       })
       | inr o ↦ elim o [
         | inl f ↦ inr (inl (record {
-          further = grow limit names (due_from (next_due due p) ps) m x a.0 a.1 y b.0 b.1 r es a.2 a.3 fs b.2 b.3 a.5 b.5 w.1 a.6 b.6 firsts f.further;
+          further = grow (after_part limit names (next_due due p) (record { payloads = ps; front = x; events = es; id = m; rest = r })) x a.0 a.1 y b.0 b.1 a.2 a.3 fs b.2 b.3 refl a.5 b.5 w.1 a.6 b.6 firsts f.further;
           fewer = let less : length ps < length qs = f.fewer in omega arith;
           next = f.next;
           more = f.more;
           payloads = ap (λ v. v ∷ qs) same ∙ ap (λ l. p ∷ l) f.payloads;
         }))
         | inr f ↦ inr (inr (record {
-          further = subst (λ v. Further limit names (due_from (next_due due v) qs) n y fs s x es) w.0
-              (grow limit names (due_from (next_due due p) qs) n y b.0 b.1 x a.0 a.1 s fs b.2 b.3 es a.2 a.3 b.5 a.5 (sym w.1) b.6 a.6 (sym firsts) f.further);
+          further = subst (λ v. Further (after_part limit names (next_due due v) (record { payloads = qs; front = y; events = fs; id = n; rest = s })) x es) w.0
+              (grow (after_part limit names (next_due due p) (record { payloads = qs; front = y; events = fs; id = n; rest = s })) y b.0 b.1 x a.0 a.1 b.2 b.3 es a.2 a.3 refl b.5 a.5 (sym w.1) b.6 a.6 (sym firsts) f.further);
           fewer = let less : length qs < length ps = f.fewer in omega arith;
           next = f.next;
           more = f.more;
@@ -211,11 +233,11 @@ same_next id limit r packing left p q beyond n w e =
     let k = none_begins n.more left n.whole.packing w.packing (sym n.bytes ∙ e) in
     (k.0, k.1)
 
-not_past : (limit : ℕ) (names : Names) (due : Due) (es : List EventValue) (taken id : ℕ) (r packing left : List ℕ) (p : Payload) (beyond : ℕ) → PassesEnd limit names due es taken id r
-    → IsWholePayload id limit packing p beyond → r ≡ packing ++ left → taken + length packing < 2 ^ 64 → ⊥
-not_past limit names due es taken id r packing left p beyond past w e within =
-    let k = same_next id limit r packing left p past.payload beyond past.next w e in
-    let long : 2 ^ 64 ≤ taken + length packing = subst (λ l. 2 ^ 64 ≤ taken + length l) k.1 past.beyond in
+not_past : (rest : Rest) (packing left : List ℕ) (p : Payload) (beyond : ℕ) → PassesEnd rest
+    → IsWholePayload rest.id rest.limit packing p beyond → rest.bytes ≡ packing ++ left → rest.taken + length packing < 2 ^ 64 → ⊥
+not_past rest packing left p beyond past w e within =
+    let k = same_next rest.id rest.limit rest.bytes packing left p past.payload beyond past.next w e in
+    let long : 2 ^ 64 ≤ rest.taken + length packing = subst (λ l. 2 ^ 64 ≤ rest.taken + length l) k.1 past.beyond in
     absurd (omega arith)
 
 lawful : (es first others fs : List EventValue) (ds : List DeliveryValue) (e : EventValue) → fs ≡ es ++ (first ++ others) → first ≡ e ∷ [] → AreDeliveries fs ds → IsLawful (es ++ e ∷ [])
@@ -238,44 +260,44 @@ eof_denied names due es p (Event fault) h eof d = no_eof names p d.1 d.2 eof
 eof_denied names due es p (Gather fault) h eof d = no_eof names p d.2.body d.2.payload_is eof
 eof_denied names due es p _ h eof d = d
 
-module _ (limit : ℕ) (names : Names) (due : Due) (es : List EventValue) (taken id : ℕ) (r : List ℕ) where
+module _ (rest : Rest) where
   -- an end after which nothing goes on: what the payload reports
-  denied : (reason : Reason) (p : Payload) (first others fs : List EventValue) (ds : List DeliveryValue) → AllByRecursion (λ b. b < 256) p → Answers names due p first → fs ≡ es ++ (first ++ others) → AreDeliveries fs ds → Denies names due es p reason → ⊥
-  denied (SourceError code state message) p first others fs ds fits a split are d = apart Refusal (refusal_of due p) (server_error code state message.items) (answered names due p first a d.0) d.1
-  denied (Greet fault) p first others fs ds fits a split are d = nothing_refused fault d.1 (subst (λ v. Refuses v fault) (answered names due p first a d.0) d.2)
+  denied : (reason : Reason) (p : Payload) (first others fs : List EventValue) (ds : List DeliveryValue) → AllByRecursion (λ b. b < 256) p → Answers rest.names rest.due p first → fs ≡ rest.events ++ (first ++ others) → AreDeliveries fs ds → Denies rest.names rest.due rest.events p reason → ⊥
+  denied (SourceError code state message) p first others fs ds fits a split are d = apart Refusal (refusal_of rest.due p) (server_error code state message.items) (answered rest.names rest.due p first a d.0) d.1
+  denied (Greet fault) p first others fs ds fits a split are d = nothing_refused fault d.1 (subst (λ v. Refuses v fault) (answered rest.names rest.due p first a d.0) d.2)
   denied (Event fault) p first others fs ds fits a split are d =
-      let k = in_dump names due p first d.0 a in
-      let none : event_fault names k.1.body ≡ None = event_not_refused names k.0 k.1.body k.1.is_event in
+      let k = in_dump rest.names rest.due p first d.0 a in
+      let none : event_fault rest.names k.1.body ≡ None = event_not_refused rest.names k.0 k.1.body k.1.is_event in
       let same : d.1 ≡ k.1.body = (let x = d.2 in let y = k.1.payload_is in cc) in
-      let some : event_fault names k.1.body ≡ Some fault = subst (λ l. event_fault names l ≡ Some fault) same d.3 in
-      apart EventFault (event_fault names k.1.body) fault none some
+      let some : event_fault rest.names k.1.body ≡ Some fault = subst (λ l. event_fault rest.names l ≡ Some fault) same d.3 in
+      apart EventFault (event_fault rest.names k.1.body) fault none some
   denied (Gather fault) p first others fs ds fits a split are d =
-      let k = in_dump names due p first d.0 a in
-      let one : first ≡ d.1 ∷ [] = k.2 ∙ ap (λ e. e ∷ []) (carries_same names p k.0 d.1 k.1 d.2) in
+      let k = in_dump rest.names rest.due p first d.0 a in
+      let one : first ≡ d.1 ∷ [] = k.2 ∙ ap (λ e. e ∷ []) (carries_same rest.names p k.0 d.1 k.1 d.2) in
       let body : AllByRecursion (λ b. b < 256) (0x00 ∷ d.2.body) = subst (λ l. AllByRecursion (λ b. b < 256) l) d.2.payload_is fits in
-      not_both es d.1 fault (record { names = names; bytes = d.2.body; fits = body.1; is_event = d.2.is_event }) (lawful es first others fs ds d.1 split one are) d.3
+      not_both rest.events d.1 fault (record { names = rest.names; bytes = d.2.body; fits = body.1; is_event = d.2.is_event }) (lawful rest.events first others fs ds d.1 split one are) d.3
   denied _ p first others fs ds fits a split are d = d
 
-  module _ (x y : List ℕ) (fs : List EventValue) (ds : List DeliveryValue) (f : Further limit names due id x es r y fs) (taken_is : taken ≡ length x) (bytes : AllByRecursion (λ b. b < 256) r) (within : length y < 2 ^ 64) (are : AreDeliveries fs ds) where
-    fits : taken + length f.packing < 2 ^ 64
+  module _ (y : List ℕ) (fs : List EventValue) (ds : List DeliveryValue) (f : Further rest y fs) (bytes : AllByRecursion (λ b. b < 256) rest.bytes) (within : length y < 2 ^ 64) (are : AreDeliveries fs ds) where
+    fits : rest.taken + length f.packing < 2 ^ 64
     fits = let h = f.within in omega arith
 
-    with : (reason : Reason) → EndsWith limit names due es taken id r reason → ⊥
+    with : (reason : Reason) → EndsWith rest reason → ⊥
     with reason s =
-        let k = same_next id limit r f.packing f.left f.payload s.payload f.after s.stops.next f.whole f.rest_is in
-        let of : AllByRecursion (λ b. b < 256) f.payload = packed_bytes id f.payload f.packing f.after f.whole.packing (all_front (λ b. b < 256) f.packing f.left (subst (λ l. AllByRecursion (λ b. b < 256) l) f.rest_is bytes)) in
-        denied reason f.payload f.first f.others fs ds of f.answers f.events are (subst (λ v. Denies names due es v reason) k.0 s.denied)
+        let k = same_next rest.id rest.limit rest.bytes f.packing f.left f.payload s.payload f.after s.stops.next f.whole f.rest_is in
+        let of : AllByRecursion (λ b. b < 256) f.payload = packed_bytes rest.id f.payload f.packing f.after f.whole.packing (all_front (λ b. b < 256) f.packing f.left (subst (λ l. AllByRecursion (λ b. b < 256) l) f.rest_is bytes)) in
+        denied reason f.payload f.first f.others fs ds of f.answers f.events are (subst (λ v. Denies rest.names rest.due rest.events v reason) k.0 s.denied)
 
-    pub blocked : (at : ℕ) (reason : Reason) → StopsFor limit names due es taken id r at reason → ⊥
-    blocked at EndOfInput s = not_unfinished id limit r f.packing f.left f.payload f.after s.1 f.whole f.rest_is
+    pub blocked : (at : ℕ) (reason : Reason) → StopsFor rest at reason → ⊥
+    blocked at EndOfInput s = not_unfinished rest.id rest.limit rest.bytes f.packing f.left f.payload f.after s.1 f.whole f.rest_is
     blocked at SourceEof s =
-        let k = same_next id limit r f.packing f.left f.payload s.payload f.after s.stops.next f.whole f.rest_is in
-        let e = in_dump names due f.payload f.first s.in_dump f.answers in
-        no_eof names f.payload e.1.body e.1.payload_is (subst (λ v. IsEofPacket v) k.0 s.is_eof)
+        let k = same_next rest.id rest.limit rest.bytes f.packing f.left f.payload s.payload f.after s.stops.next f.whole f.rest_is in
+        let e = in_dump rest.names rest.due f.payload f.first s.in_dump f.answers in
+        no_eof rest.names f.payload e.1.body e.1.payload_is (subst (λ v. IsEofPacket v) k.0 s.is_eof)
     blocked at (SourceError code state message) s = with (SourceError code state message) s.1
     blocked at (Wire fault) s = elim s.1 [
-      | inl w ↦ not_wrong id limit r f.packing f.left f.payload f.after fault w f.whole f.rest_is
-      | inr w ↦ not_past limit names due es taken id r f.packing f.left f.payload f.after w.1 f.whole f.rest_is fits
+      | inl w ↦ not_wrong rest.id rest.limit rest.bytes f.packing f.left f.payload f.after fault w f.whole f.rest_is
+      | inr w ↦ not_past rest f.packing f.left f.payload f.after w.1 f.whole f.rest_is fits
     ]
     blocked at (Greet fault) s = with (Greet fault) s.1
     blocked at (Event fault) s = with (Event fault) s.1
@@ -283,18 +305,18 @@ module _ (limit : ℕ) (names : Names) (due : Due) (es : List EventValue) (taken
     blocked at _ s = s
 
   -- an end of the log is not an end of another kind
-  ends_so : (reason : Reason) (other : ℕ) → EndsLog limit names due es taken id r other → EndsWith limit names due es taken id r reason → ⊥
+  ends_so : (reason : Reason) (other : ℕ) → EndsLog rest other → EndsWith rest reason → ⊥
   ends_so reason other l w =
-      let k = same_next id limit r l.stops.next.packing l.stops.next.more l.payload w.payload l.stops.next.after w.stops.next l.stops.next.whole l.stops.next.bytes in
-      eof_denied names due es l.payload reason l.in_dump l.is_eof (subst (λ v. Denies names due es v reason) k.0 w.denied)
+      let k = same_next rest.id rest.limit rest.bytes l.stops.next.packing l.stops.next.more l.payload w.payload l.stops.next.after w.stops.next l.stops.next.whole l.stops.next.bytes in
+      eof_denied rest.names rest.due rest.events l.payload reason l.in_dump l.is_eof (subst (λ v. Denies rest.names rest.due rest.events v reason) k.0 w.denied)
 
-  no_log : (other : ℕ) (at : ℕ) (reason : Reason) → EndsLog limit names due es taken id r other → StopsFor limit names due es taken id r at reason → (at ≡ taken) × (reason ≢ SourceEof) → ⊥
-  no_log other at EndOfInput l s h = not_unfinished id limit r l.stops.next.packing l.stops.next.more l.payload l.stops.next.after s.1 l.stops.next.whole l.stops.next.bytes
+  no_log : (other : ℕ) (at : ℕ) (reason : Reason) → EndsLog rest other → StopsFor rest at reason → (at ≡ rest.taken) × (reason ≢ SourceEof) → ⊥
+  no_log other at EndOfInput l s h = not_unfinished rest.id rest.limit rest.bytes l.stops.next.packing l.stops.next.more l.payload l.stops.next.after s.1 l.stops.next.whole l.stops.next.bytes
   no_log other at SourceEof l s h = h.1 refl
   no_log other at (SourceError code state message) l s h = ends_so (SourceError code state message) other l s.1
   no_log other at (Wire fault) l s h = elim s.1 [
-    | inl w ↦ not_wrong id limit r l.stops.next.packing l.stops.next.more l.payload l.stops.next.after fault w l.stops.next.whole l.stops.next.bytes
-    | inr w ↦ not_past limit names due es taken id r l.stops.next.packing l.stops.next.more l.payload l.stops.next.after w.1 l.stops.next.whole l.stops.next.bytes l.stops.within
+    | inl w ↦ not_wrong rest.id rest.limit rest.bytes l.stops.next.packing l.stops.next.more l.payload l.stops.next.after fault w l.stops.next.whole l.stops.next.bytes
+    | inr w ↦ not_past rest l.stops.next.packing l.stops.next.more l.payload l.stops.next.after w.1 l.stops.next.whole l.stops.next.bytes l.stops.within
   ]
   no_log other at (Greet fault) l s h = ends_so (Greet fault) other l s.1
   no_log other at (Event fault) l s h = ends_so (Event fault) other l s.1
@@ -302,7 +324,7 @@ module _ (limit : ℕ) (names : Names) (due : Due) (es : List EventValue) (taken
   no_log other at _ l s h = s
 
   -- where it stops
-  offset_of : (at : ℕ) (reason : Reason) → StopsFor limit names due es taken id r at reason → ((at ≡ taken) × (reason ≢ SourceEof)) ⊎ EndsLog limit names due es taken id r at
+  offset_of : (at : ℕ) (reason : Reason) → StopsFor rest at reason → ((at ≡ rest.taken) × (reason ≢ SourceEof)) ⊎ EndsLog rest at
   offset_of at EndOfInput s = inl (s.0, λ e. cc)
   offset_of at SourceEof s = inr s
   offset_of at (SourceError code state message) s = inl (s.0, λ e. cc)
@@ -312,7 +334,7 @@ module _ (limit : ℕ) (names : Names) (due : Due) (es : List EventValue) (taken
   offset_of at (Gather fault) s = inl (s.0, λ e. cc)
   offset_of at _ s = absurd s
 
-  one_offset : (at other : ℕ) (reason also : Reason) → StopsFor limit names due es taken id r at reason → StopsFor limit names due es taken id r other also → at ≡ other
+  one_offset : (at other : ℕ) (reason also : Reason) → StopsFor rest at reason → StopsFor rest other also → at ≡ other
   one_offset at other reason also s t = elim (offset_of at reason s) [
     | inl h ↦ elim (offset_of other also t) [
       | inl k ↦ h.0 ∙ sym k.0
@@ -321,30 +343,23 @@ module _ (limit : ℕ) (names : Names) (due : Due) (es : List EventValue) (taken
     | inr l ↦ elim (offset_of other also t) [
       | inl k ↦ absurd (no_log at other also l t k)
       | inr m ↦ (
-          let n = same_next id limit r m.stops.next.packing m.stops.next.more m.payload l.payload m.stops.next.after l.stops.next m.stops.next.whole m.stops.next.bytes in
-          l.at_is ∙ ap (λ p. taken + length p) n.1 ∙ sym m.at_is
+          let n = same_next rest.id rest.limit rest.bytes m.stops.next.packing m.stops.next.more m.payload l.payload m.stops.next.after l.stops.next m.stops.next.whole m.stops.next.bytes in
+          l.at_is ∙ ap (λ p. rest.taken + length p) n.1 ∙ sym m.at_is
           )
     ]
   ]
 
 -- ---- One end.
-pub stops_same : (limit : ℕ) (names : Names) (ps qs : List Payload) (es fs : List EventValue) (x y : List ℕ) (m n : ℕ) (r s : List ℕ) (at : ℕ) (reason : Reason) → Same ps x es m r qs y fs n s
-    → StopsFor limit names (due_after qs) fs (length y) n s at reason → StopsFor limit names (due_after ps) es (length x) m r at reason
-stops_same limit names ps qs es fs x y m n r s at reason e h =
-    subst (λ v. StopsFor limit names (due_after v) es (length x) m r at reason) (sym e.payloads)
-    (subst (λ v. StopsFor limit names (due_after qs) v (length x) m r at reason) (sym e.events)
-    (subst (λ v. StopsFor limit names (due_after qs) fs (length v) m r at reason) (sym e.front)
-    (subst (λ v. StopsFor limit names (due_after qs) fs (length y) v r at reason) (sym e.id)
-    (subst (λ v. StopsFor limit names (due_after qs) fs (length y) n v at reason) (sym e.rest) h))))
+pub stops_same : (limit : ℕ) (names : Names) (x y : Part) (at : ℕ) (reason : Reason) → Same x y → StopsFor (after_part limit names Hello y) at reason → StopsFor (after_part limit names Hello x) at reason
+stops_same limit names x y at reason e h = subst (λ (v : Part). StopsFor (after_part limit names Hello v) at reason) (sym (same_part x y e)) h
 
 module _ (limit : ℕ) (names : Names) (b : List ℕ) (bytes : AllByRecursion (λ v. v < 256) b) where
-  pub no_further : (x y : Reading limit names b) (at : ℕ) (reason : Reason) → StopsFor limit names (due_after x.payloads) x.events (length x.front) x.id x.rest at reason
-      → Further limit names (due_after x.payloads) x.id x.front x.events x.rest y.front y.events → ⊥
+  pub no_further : (x y : Reading limit names b) (at : ℕ) (reason : Reason) → StopsFor (rest_of x) at reason
+      → Further (rest_of x) y.front y.events → ⊥
   no_further x y at reason s f =
-      blocked limit names (due_after x.payloads) x.events (length x.front) x.id x.rest x.front y.front y.events y.deliveries f refl (all_back (λ b. b < 256) x.front x.rest (subst (λ l. AllByRecursion (λ v. v < 256) l) x.bytes bytes))
-      y.talk.within y.talk.delivers at reason s
+      blocked (rest_of x) y.front y.events y.deliveries f (all_back (λ b. b < 256) x.front x.rest (subst (λ l. AllByRecursion (λ v. v < 256) l) x.bytes bytes)) y.talk.within y.talk.delivers at reason s
 
-  pub both_read : (x y : Reading limit names b) → Compared limit names Hello x.payloads x.front x.events x.id x.rest y.payloads y.front y.events y.id y.rest
+  pub both_read : (x y : Reading limit names b) → Compared limit names Hello (part_of x) (part_of y)
   both_read x y = compare limit names Hello 0 x.payloads x.front x.events x.id x.rest y.payloads y.front y.events y.id y.rest x.talk.talks y.talk.talks (sym x.bytes ∙ y.bytes)
 
   pub one_end : (r s : Reason) (at other : ℕ) → End limit names b r at → End limit names b s other → at ≡ other
@@ -352,8 +367,7 @@ module _ (limit : ℕ) (names : Names) (b : List ℕ) (bytes : AllByRecursion (�
       let x = e.reading in
       let y = f.reading in
       elim (both_read x y) [
-        | inl same ↦ one_offset limit names (due_after x.payloads) x.events (length x.front) x.id x.rest at other r s e.stops
-            (stops_same limit names x.payloads y.payloads x.events y.events x.front y.front x.id y.id x.rest y.rest other s same f.stops)
+        | inl same ↦ one_offset (rest_of x) at other r s e.stops (stops_same limit names (part_of x) (part_of y) other s same f.stops)
         | inr o ↦ elim o [ inl a ↦ absurd (no_further x y at r e.stops a.further) | inr a ↦ absurd (no_further y x other s f.stops a.further) ]
       ]
 
@@ -427,46 +441,46 @@ one_wrong id limit r wire.TooLarge wire.Ended h k = absurd k
 one_wrong id limit r wire.Memory g h k = absurd h
 one_wrong id limit r wire.Ended g h k = absurd h
 
-module _ (limit : ℕ) (names : Names) (due : Due) (es : List EventValue) (taken id : ℕ) (r : List ℕ) where
+module _ (rest : Rest) where
   record Misplaces (p : Payload) (v : Verdict) : Type 0 where
-    carrying : heard names due p ≡ Carrying
+    carrying : heard rest.names rest.due p ≡ Carrying
     event : EventValue
-    carries : Carries names p event
+    carries : Carries rest.names p event
     fault : GatherFault
-    is_fault : IsFault es event fault
+    is_fault : IsFault rest.events event fault
     verdict : v ≡ reported.IsOutOfOrder fault
 
   abbrev SaysSo : Payload → Verdict → Type 0
-  SaysSo p v = (heard names due p ≡ Final v) ⊎ Misplaces p v
+  SaysSo p v = (heard rest.names rest.due p ≡ Final v) ⊎ Misplaces p v
 
   record EndsBy (v : Verdict) : Type 0 where
     payload : Payload
-    stops : StopsAt limit names due es taken id r payload
+    stops : StopsAt rest payload
     says : SaysSo payload v
 
   abbrev Tells : Report → Type 0
-  Tells reported.Nothing = IsUnfinished id limit r
-  Tells (reported.IsWrongHeader fault) = IsWrong id limit r fault ⊎ ((fault ≡ wire.TooLarge) × PassesEnd limit names due es taken id r)
+  Tells reported.Nothing = IsUnfinished rest.id rest.limit rest.bytes
+  Tells (reported.IsWrongHeader fault) = IsWrong rest.id rest.limit rest.bytes fault ⊎ ((fault ≡ wire.TooLarge) × PassesEnd rest)
   Tells (reported.Says v) = EndsBy v
 
-  tells : (at : ℕ) (reason : Reason) → StopsFor limit names due es taken id r at reason → Tells (report_of reason)
+  tells : (at : ℕ) (reason : Reason) → StopsFor rest at reason → Tells (report_of reason)
   tells at EndOfInput s = s.1
-  tells at SourceEof s = record { payload = s.payload; stops = s.stops; says = inl (heard_refused names due s.payload None (eof_no_event due s.payload s.is_eof) (eof_none due s.payload s.in_dump s.is_eof)) }
-  tells at (SourceError code state message) s = record { payload = s.1.payload; stops = s.1.stops; says = inl (heard_refused names due s.1.payload (Some (server_error code state message.items)) s.1.denied.0 s.1.denied.1) }
+  tells at SourceEof s = record { payload = s.payload; stops = s.stops; says = inl (heard_refused rest.names rest.due s.payload None (eof_no_event rest.due s.payload s.is_eof) (eof_none rest.due s.payload s.in_dump s.is_eof)) }
+  tells at (SourceError code state message) s = record { payload = s.1.payload; stops = s.1.stops; says = inl (heard_refused rest.names rest.due s.1.payload (Some (server_error code state message.items)) s.1.denied.0 s.1.denied.1) }
   tells at (Wire fault) s = s.1
   tells at (Greet fault) s = record {
     payload = s.1.payload;
     stops = s.1.stops;
-    says = inl (heard_refused names due s.1.payload (Some (reported_refusal fault)) s.1.denied.0 (refused_for (refusal_of due s.1.payload) fault s.1.denied.1 s.1.denied.2));
+    says = inl (heard_refused rest.names rest.due s.1.payload (Some (reported_refusal fault)) s.1.denied.0 (refused_for (refusal_of rest.due s.1.payload) fault s.1.denied.1 s.1.denied.2));
   }
-  tells at (Event fault) s = record { payload = s.1.payload; stops = s.1.stops; says = inl (heard_event names due s.1.payload s.1.denied.1 (Some fault) s.1.denied.0 s.1.denied.2 s.1.denied.3) }
+  tells at (Event fault) s = record { payload = s.1.payload; stops = s.1.stops; says = inl (heard_event rest.names rest.due s.1.payload s.1.denied.1 (Some fault) s.1.denied.0 s.1.denied.2 s.1.denied.3) }
   tells at (Gather fault) s =
       let d = s.1.denied in
       record {
         payload = s.1.payload;
         stops = s.1.stops;
         says = inr (record {
-          carrying = heard_event names due s.1.payload d.2.body None d.0 d.2.payload_is (event_not_refused names d.1 d.2.body d.2.is_event);
+          carrying = heard_event rest.names rest.due s.1.payload d.2.body None d.0 d.2.payload_is (event_not_refused rest.names d.1 d.2.body d.2.is_event);
           event = d.1;
           carries = d.2;
           fault = fault;
@@ -485,44 +499,44 @@ module _ (limit : ℕ) (names : Names) (due : Due) (es : List EventValue) (taken
     | inr h ↦ elim y [
       | inl k ↦ (let c = h.carrying in cc)
       | inr k ↦ (
-          let same : h.event ≡ k.event = carries_same names p h.event k.event h.carries k.carries in
+          let same : h.event ≡ k.event = carries_same rest.names p h.event k.event h.carries k.carries in
           let body : AllByRecursion (λ v. v < 256) (0x00 ∷ k.carries.body) = subst (λ l. AllByRecursion (λ v. v < 256) l) k.carries.payload_is fits in
-          let f : h.fault ≡ k.fault = one_fault es k.event h.fault k.fault (record { names = names; bytes = k.carries.body; fits = body.1; is_event = k.carries.is_event }) (subst (λ e. IsFault es e h.fault) same h.is_fault) k.is_fault in
+          let f : h.fault ≡ k.fault = one_fault rest.events k.event h.fault k.fault (record { names = rest.names; bytes = k.carries.body; fits = body.1; is_event = k.carries.is_event }) (subst (λ e. IsFault rest.events e h.fault) same h.is_fault) k.is_fault in
           h.verdict ∙ ap (λ v. reported.IsOutOfOrder v) f ∙ sym k.verdict
           )
     ]
   ]
 
-  no_wrong : (fault : WireFault) (v : Verdict) → IsWrong id limit r fault ⊎ ((fault ≡ wire.TooLarge) × PassesEnd limit names due es taken id r) → EndsBy v → ⊥
+  no_wrong : (fault : WireFault) (v : Verdict) → IsWrong rest.id rest.limit rest.bytes fault ⊎ ((fault ≡ wire.TooLarge) × PassesEnd rest) → EndsBy v → ⊥
   no_wrong fault v w e =
       let n = e.stops.next in
       elim w [
-        | inl h ↦ not_wrong id limit r n.packing n.more e.payload n.after fault h n.whole n.bytes
-        | inr h ↦ not_past limit names due es taken id r n.packing n.more e.payload n.after h.1 n.whole n.bytes e.stops.within
+        | inl h ↦ not_wrong rest.id rest.limit rest.bytes n.packing n.more e.payload n.after fault h n.whole n.bytes
+        | inr h ↦ not_past rest n.packing n.more e.payload n.after h.1 n.whole n.bytes e.stops.within
       ]
 
-  none_wrong : (fault : WireFault) → IsUnfinished id limit r → IsWrong id limit r fault ⊎ ((fault ≡ wire.TooLarge) × PassesEnd limit names due es taken id r) → ⊥
+  none_wrong : (fault : WireFault) → IsUnfinished rest.id rest.limit rest.bytes → IsWrong rest.id rest.limit rest.bytes fault ⊎ ((fault ≡ wire.TooLarge) × PassesEnd rest) → ⊥
   none_wrong fault u w = elim w [
-    | inl h ↦ unfinished_right id limit r fault u h
-    | inr h ↦ (let n = h.1.next in not_unfinished id limit r n.packing n.more h.1.payload n.after u n.whole n.bytes)
+    | inl h ↦ unfinished_right rest.id rest.limit rest.bytes fault u h
+    | inr h ↦ (let n = h.1.next in not_unfinished rest.id rest.limit rest.bytes n.packing n.more h.1.payload n.after u n.whole n.bytes)
   ]
 
-  none_whole : (v : Verdict) → IsUnfinished id limit r → EndsBy v → ⊥
-  none_whole v u e = let n = e.stops.next in not_unfinished id limit r n.packing n.more e.payload n.after u n.whole n.bytes
+  none_whole : (v : Verdict) → IsUnfinished rest.id rest.limit rest.bytes → EndsBy v → ⊥
+  none_whole v u e = let n = e.stops.next in not_unfinished rest.id rest.limit rest.bytes n.packing n.more e.payload n.after u n.whole n.bytes
 
-  same_wrong : (f g : WireFault) → IsWrong id limit r f ⊎ ((f ≡ wire.TooLarge) × PassesEnd limit names due es taken id r) → IsWrong id limit r g ⊎ ((g ≡ wire.TooLarge) × PassesEnd limit names due es taken id r) → f ≡ g
+  same_wrong : (f g : WireFault) → IsWrong rest.id rest.limit rest.bytes f ⊎ ((f ≡ wire.TooLarge) × PassesEnd rest) → IsWrong rest.id rest.limit rest.bytes g ⊎ ((g ≡ wire.TooLarge) × PassesEnd rest) → f ≡ g
   same_wrong f g x y = elim x [
     | inl h ↦ elim y [
-      | inl k ↦ one_wrong id limit r f g h k
-      | inr k ↦ (let n = k.1.next in absurd (not_wrong id limit r n.packing n.more k.1.payload n.after f h n.whole n.bytes))
+      | inl k ↦ one_wrong rest.id rest.limit rest.bytes f g h k
+      | inr k ↦ (let n = k.1.next in absurd (not_wrong rest.id rest.limit rest.bytes n.packing n.more k.1.payload n.after f h n.whole n.bytes))
     ]
     | inr h ↦ elim y [
-      | inl k ↦ (let n = h.1.next in absurd (not_wrong id limit r n.packing n.more h.1.payload n.after g k n.whole n.bytes))
+      | inl k ↦ (let n = h.1.next in absurd (not_wrong rest.id rest.limit rest.bytes n.packing n.more h.1.payload n.after g k n.whole n.bytes))
       | inr k ↦ h.0 ∙ sym k.0
     ]
   ]
 
-  same_reported : AllByRecursion (λ v. v < 256) r → (a b : Report) → Tells a → Tells b → a ≡ b
+  same_reported : AllByRecursion (λ v. v < 256) rest.bytes → (a b : Report) → Tells a → Tells b → a ≡ b
   same_reported fits reported.Nothing reported.Nothing x y = refl
   same_reported fits reported.Nothing (reported.IsWrongHeader g) x y = absurd (none_wrong g x y)
   same_reported fits reported.Nothing (reported.Says w) x y = absurd (none_whole w x y)
@@ -533,8 +547,8 @@ module _ (limit : ℕ) (names : Names) (due : Due) (es : List EventValue) (taken
   same_reported fits (reported.Says v) (reported.IsWrongHeader g) x y = absurd (no_wrong g v y x)
   same_reported fits (reported.Says v) (reported.Says w) x y =
       let n = y.stops.next in
-      let k = same_next id limit r n.packing n.more y.payload x.payload n.after x.stops.next n.whole n.bytes in
-      let of : AllByRecursion (λ b. b < 256) y.payload = packed_bytes id y.payload n.packing n.after n.whole.packing (all_front (λ b. b < 256) n.packing n.more (subst (λ l. AllByRecursion (λ b. b < 256) l) n.bytes fits)) in
+      let k = same_next rest.id rest.limit rest.bytes n.packing n.more y.payload x.payload n.after x.stops.next n.whole n.bytes in
+      let of : AllByRecursion (λ b. b < 256) y.payload = packed_bytes rest.id y.payload n.packing n.after n.whole.packing (all_front (λ b. b < 256) n.packing n.more (subst (λ l. AllByRecursion (λ b. b < 256) l) n.bytes fits)) in
       ap (λ u. reported.Says u) (same_verdict y.payload v w of (subst (λ p. SaysSo p v) k.0 x.says) y.says)
 
 module _ (limit : ℕ) (names : Names) (b : List ℕ) (bytes : AllByRecursion (λ v. v < 256) b) where
@@ -543,9 +557,8 @@ module _ (limit : ℕ) (names : Names) (b : List ℕ) (bytes : AllByRecursion (�
       let x = e.reading in
       let y = f.reading in
       elim (both_read limit names b bytes x y) [
-        | inl same ↦ same_reported limit names (due_after x.payloads) x.events (length x.front) x.id x.rest (all_back (λ b. b < 256) x.front x.rest (subst (λ l. AllByRecursion (λ v. v < 256) l) x.bytes bytes)) (report_of r) (report_of s)
-            (tells limit names (due_after x.payloads) x.events (length x.front) x.id x.rest at r e.stops)
-            (tells limit names (due_after x.payloads) x.events (length x.front) x.id x.rest other s
-            (stops_same limit names x.payloads y.payloads x.events y.events x.front y.front x.id y.id x.rest y.rest other s same f.stops))
+        | inl same ↦ same_reported (rest_of x) (all_back (λ b. b < 256) x.front x.rest (subst (λ l. AllByRecursion (λ v. v < 256) l) x.bytes bytes)) (report_of r) (report_of s)
+            (tells (rest_of x) at r e.stops)
+            (tells (rest_of x) other s (stops_same limit names (part_of x) (part_of y) other s same f.stops))
         | inr o ↦ elim o [ inl a ↦ absurd (no_further limit names b bytes x y at r e.stops a.further) | inr a ↦ absurd (no_further limit names b bytes y x other s f.stops a.further) ]
       ]

@@ -7,13 +7,14 @@ use Rattle.store.specs.Changes.{IsDone}
 use Rattle.store.specs.declared.row_change.Refusal.TheVariants as why
 use Rattle.store.specs.declared.row_change.Refusal as row
 use Rattle.replica.specs.declared.end.Refusal.{Refusal}
+use Rattle.replica.specs.End.{Rest, rest_of}
 use Rattle.replica.specs.Conn.{NextAnswers, IsRefusedNext, IsOfBytes}
 use Rattle.replica.specs.Report.{report_of}
 use Rattle.replica.specs.Outcome.{refused_by, IsSameEnd}
 use Rattle.replica.proofs.Bytes.{all_front, all_back, all_both, packed_bytes}
 use Rattle.replica.proofs.Transactions.{all_one, halves, one_by, taken_at, head_of, tail_of}
 use Rattle.replica.proofs.Push.{stays_in_dump}
-use Rattle.replica.proofs.OneEnd.{Ahead, stops_same, Same, Further, both_read, no_further, one_end, one_reason, blocked, same_next, in_dump, carries_same}
+use Rattle.replica.proofs.OneEnd.{Part, part_of, after_part, same_part, Ahead, stops_same, Same, Further, both_read, no_further, one_end, one_reason, blocked, same_next, in_dump, carries_same}
 
 -- ---- The events of a conversation are read from bytes.
 
@@ -34,37 +35,37 @@ talked_read limit names due id (p ∷ ps) x es last fits t =
 
 -- ---- The kinds of ends.
 
-module _ (limit : ℕ) (names : Names) (due : Due) (es : List EventValue) (ds : List DeliveryValue) (taken id : ℕ) (rest : List ℕ) (old new : Content) (at : ℕ) (reason : Reason) where
+module _ (rest : Rest) (ds : List DeliveryValue) (old new : Content) (at : ℕ) (reason : Reason) where
   -- the bytes stop the reading
   pub record ByBytes : Type 0 where
     pub of : IsOfBytes reason
-    pub stops : StopsFor limit names due es taken id rest at reason
+    pub stops : StopsFor rest at reason
 
   -- a transaction is refused
   pub record ByRefusal : Type 0 where
     pub refusal : Refusal
     pub reason_is : reason ≡ Refused refusal
-    pub at_is : at ≡ taken
-    pub next : IsRefusedNext limit names due es ds taken id rest new refusal
+    pub at_is : at ≡ rest.taken
+    pub next : IsRefusedNext rest ds new refusal
 
   -- the dump command is too long
   pub record ByLength : Type 0 where
     pub reason_is : reason ≡ Wire wire.TooLarge
-    pub at_is : at ≡ taken
-    pub next : NextAnswers limit names due es ds taken id rest
+    pub at_is : at ≡ rest.taken
+    pub next : NextAnswers rest ds
     pub long : IsDumpTooLong old.executed
 
-kind_of : (limit : ℕ) (names : Names) (due : Due) (es : List EventValue) (ds : List DeliveryValue) (taken id : ℕ) (rest : List ℕ) (was : Bool) (old new : Content) (at : ℕ) (reason : Reason) → IsInFull reason → Why limit names due es ds taken id rest was old new at reason
-    → ByBytes limit names due es ds taken id rest old new at reason ⊎ (ByRefusal limit names due es ds taken id rest old new at reason ⊎ ByLength limit names due es ds taken id rest old new at reason)
-kind_of limit names due es ds taken id rest was old new at (Wire f) h w = elim w [ inl s ↦ inl (record { of = tt; stops = s }) | inr t ↦ inr (inr (record { reason_is = ap (λ v. Wire v) t.0; at_is = t.1; next = t.2; long = t.3 })) ]
-kind_of limit names due es ds taken id rest was old new at (Refused refusal) h w = inr (inl (record { refusal = refusal; reason_is = refl; at_is = w.0; next = w.1 }))
-kind_of limit names due es ds taken id rest was old new at (Database cause) h w = absurd h
-kind_of limit names due es ds taken id rest was old new at Memory h w = absurd h
-kind_of limit names due es ds taken id rest was old new at ReadFailed h w = absurd h
-kind_of limit names due es ds taken id rest was old new at WriteFailed h w = absurd h
-kind_of limit names due es ds taken id rest was old new at Halted h w = absurd h
-kind_of limit names due es ds taken id rest was old new at Until h w = absurd h
-kind_of limit names due es ds taken id rest was old new at _ h w = inl (record { of = tt; stops = w })
+kind_of : (rest : Rest) (ds : List DeliveryValue) (was : Bool) (old new : Content) (at : ℕ) (reason : Reason) → IsInFull reason → Why rest ds was old new at reason
+    → ByBytes rest ds old new at reason ⊎ (ByRefusal rest ds old new at reason ⊎ ByLength rest ds old new at reason)
+kind_of rest ds was old new at (Wire f) h w = elim w [ inl s ↦ inl (record { of = tt; stops = s }) | inr t ↦ inr (inr (record { reason_is = ap (λ v. Wire v) t.0; at_is = t.1; next = t.2; long = t.3 })) ]
+kind_of rest ds was old new at (Refused refusal) h w = inr (inl (record { refusal = refusal; reason_is = refl; at_is = w.0; next = w.1 }))
+kind_of rest ds was old new at (Database cause) h w = absurd h
+kind_of rest ds was old new at Memory h w = absurd h
+kind_of rest ds was old new at ReadFailed h w = absurd h
+kind_of rest ds was old new at WriteFailed h w = absurd h
+kind_of rest ds was old new at Halted h w = absurd h
+kind_of rest ds was old new at Until h w = absurd h
+kind_of rest ds was old new at _ h w = inl (record { of = tt; stops = w })
 
 none_refused : (reason : Reason) → IsOfBytes reason → refused_by reason ≡ None
 none_refused (Refused refusal) h = absurd h
@@ -176,13 +177,13 @@ in_dump_answer names _ p e h c = absurd h
 
 module _ (limit : ℕ) (names : Names) (b : List ℕ) (bytes : AllByRecursion (λ v. v < 256) b) (old new : Content) (refusal : Refusal) (applied : ℕ) (x : Reading limit names b)
     (has_applied : AppliesAll names old x.deliveries applied new)
-    (r : IsRefusedNext limit names (due_after x.payloads) x.events x.deliveries (length x.front) x.id x.rest new refusal) where
+    (r : IsRefusedNext (rest_of x) x.deliveries new refusal) where
   rest_bytes : AllByRecursion (λ v. v < 256) x.rest
   rest_bytes = all_back (λ v. v < 256) x.front x.rest (subst (λ l. AllByRecursion (λ v. v < 256) l) x.bytes bytes)
 
   -- no other reading that takes its transactions goes on
   not_beyond : (y : Reading limit names b) (n : ℕ) (other : Content) → AppliesAll names old y.deliveries n other
-      → Further limit names (due_after x.payloads) x.id x.front x.events x.rest y.front y.events → ⊥
+      → Further (rest_of x) y.front y.events → ⊥
   not_beyond y n other took_y f =
       let ends = r.ends in
       let d = r.delivery in
@@ -203,12 +204,12 @@ module _ (limit : ℕ) (names : Names) (b : List ℕ) (bytes : AllByRecursion (�
       not_taken names new d refusal g.second a.mid (subst (λ v. AppliesAll names v (d ∷ []) g.second a.mid) (sym mid) g.applies_second) r.refused
 
   -- the bytes do not stop the reading there
-  not_stopped : (at : ℕ) (reason : Reason) → StopsFor limit names (due_after x.payloads) x.events (length x.front) x.id x.rest at reason → ⊥
+  not_stopped : (at : ℕ) (reason : Reason) → StopsFor (rest_of x) at reason → ⊥
   not_stopped at reason s =
       let ends = r.ends in
       let next = ends.stops.next in
       let size : length (x.front ++ next.packing) ≡ length x.front + length next.packing = length-append x.front next.packing in
-      let f : Further limit names (due_after x.payloads) x.id x.front x.events x.rest (x.front ++ next.packing) (x.events ++ ends.event ∷ []) = record {
+      let f : Further (rest_of x) (x.front ++ next.packing) (x.events ++ ends.event ∷ []) = record {
         payload = ends.payload;
         packing = next.packing;
         left = next.more;
@@ -221,11 +222,11 @@ module _ (limit : ℕ) (names : Names) (b : List ℕ) (bytes : AllByRecursion (�
         within = omega (arith, size);
         events = refl;
       } in
-      blocked limit names (due_after x.payloads) x.events (length x.front) x.id x.rest x.front (x.front ++ next.packing) (x.events ++ ends.event ∷ []) (x.deliveries ++ r.delivery ∷ []) f refl rest_bytes
+      blocked (rest_of x) (x.front ++ next.packing) (x.events ++ ends.event ∷ []) (x.deliveries ++ r.delivery ∷ []) f rest_bytes
       (omega (arith, size, ends.stops.within)) ends.delivers at reason s
 
   -- nor is it refused for another reason
-  same_refusal : (also : Refusal) → IsRefusedNext limit names (due_after x.payloads) x.events x.deliveries (length x.front) x.id x.rest new also → refusal ≡ also
+  same_refusal : (also : Refusal) → IsRefusedNext (rest_of x) x.deliveries new also → refusal ≡ also
   same_refusal also m =
       let ends = r.ends in
       let other = m.ends in
@@ -243,16 +244,12 @@ module _ (limit : ℕ) (names : Names) (b : List ℕ) (bytes : AllByRecursion (�
       let d : r.delivery ≡ m.delivery = last_same x.deliveries r.delivery m.delivery lists in
       one_refused names new m.delivery refusal also (subst (λ v. IsRefusedBy names new v refusal) d r.refused) m.refused
 
-refused_there : (limit : ℕ) (names : Names) (ps qs : List Payload) (es fs : List EventValue) (ds gs : List DeliveryValue) (x y : List ℕ) (m n : ℕ) (r s : List ℕ) (new other : Content) (refusal : Refusal) → Same ps x es m r qs y fs n s → ds ≡ gs → new ≡ other
-    → IsRefusedNext limit names (due_after qs) fs gs (length y) n s other refusal → IsRefusedNext limit names (due_after ps) es ds (length x) m r new refusal
-refused_there limit names ps qs es fs ds gs x y m n r s new other refusal e deliveries content h =
-    subst (λ v. IsRefusedNext limit names (due_after v) es ds (length x) m r new refusal) (sym e.payloads)
-    (subst (λ v. IsRefusedNext limit names (due_after qs) v ds (length x) m r new refusal) (sym e.events)
-    (subst (λ v. IsRefusedNext limit names (due_after qs) fs v (length x) m r new refusal) (sym deliveries)
-    (subst (λ v. IsRefusedNext limit names (due_after qs) fs gs (length v) m r new refusal) (sym e.front)
-    (subst (λ v. IsRefusedNext limit names (due_after qs) fs gs (length y) v r new refusal) (sym e.id)
-    (subst (λ v. IsRefusedNext limit names (due_after qs) fs gs (length y) n v new refusal) (sym e.rest)
-    (subst (λ v. IsRefusedNext limit names (due_after qs) fs gs (length y) n s v refusal) (sym content) h))))))
+refused_there : (limit : ℕ) (names : Names) (x y : Part) (ds gs : List DeliveryValue) (new other : Content) (refusal : Refusal) → Same x y → ds ≡ gs → new ≡ other
+    → IsRefusedNext (after_part limit names Hello y) gs other refusal → IsRefusedNext (after_part limit names Hello x) ds new refusal
+refused_there limit names x y ds gs new other refusal e deliveries content h =
+    subst (λ (v : Part). IsRefusedNext (after_part limit names Hello v) ds new refusal) (sym (same_part x y e))
+    (subst (λ v. IsRefusedNext (after_part limit names Hello y) v new refusal) (sym deliveries)
+    (subst (λ v. IsRefusedNext (after_part limit names Hello y) gs v refusal) (sym content) h))
 
 -- ---- The next payload is the reply to the query, and the dump command is too long.
 
@@ -261,14 +258,14 @@ due_beyond d [] next more e = subst (λ v. IsInDump (due_from v (next ∷ more))
 due_beyond d (p ∷ ps) next more e = due_beyond (next_due d p) ps next more e
 
 -- the bytes do not stop the reading there
-answered_not_stopped : (limit : ℕ) (names : Names) (b : List ℕ) → AllByRecursion (λ v. v < 256) b → (x : Reading limit names b) → NextAnswers limit names (due_after x.payloads) x.events x.deliveries (length x.front) x.id x.rest
-    → (at : ℕ) (reason : Reason) → StopsFor limit names (due_after x.payloads) x.events (length x.front) x.id x.rest at reason → ⊥
+answered_not_stopped : (limit : ℕ) (names : Names) (b : List ℕ) → AllByRecursion (λ v. v < 256) b → (x : Reading limit names b) → NextAnswers (rest_of x) x.deliveries
+    → (at : ℕ) (reason : Reason) → StopsFor (rest_of x) at reason → ⊥
 answered_not_stopped limit names b bytes x a at reason s =
     let next = a.stops.next in
     let size : length (x.front ++ next.packing) ≡ length x.front + length next.packing = length-append x.front next.packing in
     let rest : AllByRecursion (λ v. v < 256) x.rest = all_back (λ v. v < 256) x.front x.rest (subst (λ l. AllByRecursion (λ v. v < 256) l) x.bytes bytes) in
     let answers : Answers names (due_after x.payloads) a.payload [] = subst (λ v. Answers names v a.payload []) (sym a.due_is) (a.is_ok, refl) in
-    let f : Further limit names (due_after x.payloads) x.id x.front x.events x.rest (x.front ++ next.packing) x.events = record {
+    let f : Further (rest_of x) (x.front ++ next.packing) x.events = record {
       payload = a.payload;
       packing = next.packing;
       left = next.more;
@@ -281,7 +278,7 @@ answered_not_stopped limit names b bytes x a at reason s =
       within = omega (arith, size);
       events = sym (append-nil x.events);
     } in
-    blocked limit names (due_after x.payloads) x.events (length x.front) x.id x.rest x.front (x.front ++ next.packing) x.events x.deliveries f refl rest
+    blocked (rest_of x) (x.front ++ next.packing) x.events x.deliveries f rest
     (omega (arith, size, a.stops.within)) x.talk.delivers at reason s
 
 -- ---- One outcome.
@@ -295,8 +292,8 @@ module _ (limit : ℕ) (names : Names) (b : List ℕ) (bytes : AllByRecursion (�
   y = d.reading
 
   -- the other has not gone on
-  not_behind : IsInFull end.reason → Ahead limit names Hello x.payloads x.front x.events x.id x.rest y.payloads y.front y.events → ⊥
-  not_behind h a = elim (kind_of limit names (due_after x.payloads) x.events x.deliveries (length x.front) x.id x.rest was old new end.at end.reason h c.why) [
+  not_behind : IsInFull end.reason → Ahead limit names Hello (part_of x) (part_of y) → ⊥
+  not_behind h a = elim (kind_of (rest_of x) x.deliveries was old new end.at end.reason h c.why) [
     | inl s ↦ no_further limit names b bytes x y end.at end.reason s.stops a.further
     | inr o ↦ elim o [
       | inl r ↦ not_beyond limit names b bytes old new r.refusal end.applied x c.has_applied.applies r.next y last.applied other d.has_applied.applies a.further
@@ -304,7 +301,7 @@ module _ (limit : ℕ) (names : Names) (b : List ℕ) (bytes : AllByRecursion (�
     ]
   ]
 
-  module _ (same : Same x.payloads x.front x.events x.id x.rest y.payloads y.front y.events y.id y.rest) where
+  module _ (same : Same (part_of x) (part_of y)) where
     one_list : x.deliveries ≡ y.deliveries
     one_list =
         let front : AllByRecursion (λ v. v < 256) x.front = all_front (λ v. v < 256) x.front x.rest (subst (λ l. AllByRecursion (λ v. v < 256) l) x.bytes bytes) in
@@ -325,7 +322,7 @@ module _ (limit : ℕ) (names : Names) (b : List ℕ) (bytes : AllByRecursion (�
   abbrev y' : Reading limit names b
   y' = d.reading
 
-  both_same : Same x'.payloads x'.front x'.events x'.id x'.rest y'.payloads y'.front y'.events y'.id y'.rest
+  both_same : Same (part_of x') (part_of y')
   both_same = elim (both_read limit names b bytes x' y') [
     | inl v ↦ v
     | inr o ↦ elim o [
@@ -340,8 +337,8 @@ module _ (limit : ℕ) (names : Names) (b : List ℕ) (bytes : AllByRecursion (�
   one_applied : end.applied ≡ last.applied
   one_applied = same_count limit names b bytes was is old new other end last c d both_same
 
-  by_bytes : IsOfBytes end.reason → StopsFor limit names (due_after x'.payloads) x'.events (length x'.front) x'.id x'.rest end.at end.reason
-      → IsOfBytes last.reason → StopsFor limit names (due_after y'.payloads) y'.events (length y'.front) y'.id y'.rest last.at last.reason → IsSameEnd end last
+  by_bytes : IsOfBytes end.reason → StopsFor (rest_of x') end.at end.reason
+      → IsOfBytes last.reason → StopsFor (rest_of y') last.at last.reason → IsSameEnd end last
   by_bytes of s also t =
       let e : End limit names b end.reason end.at = record { reading = x'; stops = s } in
       let f : End limit names b last.reason last.at = record { reading = y'; stops = t } in
@@ -353,25 +350,25 @@ module _ (limit : ℕ) (names : Names) (b : List ℕ) (bytes : AllByRecursion (�
       }
 
   -- what comes next for the other comes next for this one
-  moved : (refusal : Refusal) → IsRefusedNext limit names (due_after y'.payloads) y'.events y'.deliveries (length y'.front) y'.id y'.rest other refusal
-      → IsRefusedNext limit names (due_after x'.payloads) x'.events x'.deliveries (length x'.front) x'.id x'.rest new refusal
+  moved : (refusal : Refusal) → IsRefusedNext (rest_of y') y'.deliveries other refusal
+      → IsRefusedNext (rest_of x') x'.deliveries new refusal
   moved refusal r =
-      refused_there limit names x'.payloads y'.payloads x'.events y'.events x'.deliveries y'.deliveries x'.front y'.front x'.id y'.id x'.rest y'.rest new other refusal both_same
+      refused_there limit names (part_of x') (part_of y') x'.deliveries y'.deliveries new other refusal both_same
       (one_list limit names b bytes was is old new other end last c d both_same) one_content r
 
-  stops_there : StopsFor limit names (due_after y'.payloads) y'.events (length y'.front) y'.id y'.rest last.at last.reason → StopsFor limit names (due_after x'.payloads) x'.events (length x'.front) x'.id x'.rest last.at last.reason
-  stops_there t = stops_same limit names x'.payloads y'.payloads x'.events y'.events x'.front y'.front x'.id y'.id x'.rest y'.rest last.at last.reason both_same t
+  stops_there : StopsFor (rest_of y') last.at last.reason → StopsFor (rest_of x') last.at last.reason
+  stops_there t = stops_same limit names (part_of x') (part_of y') last.at last.reason both_same t
 
-  not_mixed : StopsFor limit names (due_after x'.payloads) x'.events (length x'.front) x'.id x'.rest end.at end.reason
-      → (refusal : Refusal) → IsRefusedNext limit names (due_after y'.payloads) y'.events y'.deliveries (length y'.front) y'.id y'.rest other refusal → ⊥
+  not_mixed : StopsFor (rest_of x') end.at end.reason
+      → (refusal : Refusal) → IsRefusedNext (rest_of y') y'.deliveries other refusal → ⊥
   not_mixed s refusal r = not_stopped limit names b bytes old new refusal end.applied x' c.has_applied.applies (moved refusal r) end.at end.reason s
 
-  not_answered : NextAnswers limit names (due_after x'.payloads) x'.events x'.deliveries (length x'.front) x'.id x'.rest
-      → StopsFor limit names (due_after y'.payloads) y'.events (length y'.front) y'.id y'.rest last.at last.reason → ⊥
+  not_answered : NextAnswers (rest_of x') x'.deliveries
+      → StopsFor (rest_of y') last.at last.reason → ⊥
   not_answered a t = answered_not_stopped limit names b bytes x' a last.at last.reason (stops_there t)
 
-  not_in_dump : NextAnswers limit names (due_after x'.payloads) x'.events x'.deliveries (length x'.front) x'.id x'.rest
-      → (refusal : Refusal) → IsRefusedNext limit names (due_after y'.payloads) y'.events y'.deliveries (length y'.front) y'.id y'.rest other refusal → ⊥
+  not_in_dump : NextAnswers (rest_of x') x'.deliveries
+      → (refusal : Refusal) → IsRefusedNext (rest_of y') y'.deliveries other refusal → ⊥
   not_in_dump a refusal r = subst (λ v. IsInDump v) a.due_is (moved refusal r).ends.in_dump
 
   -- both reasons are the same
@@ -384,8 +381,8 @@ module _ (limit : ℕ) (names : Names) (b : List ℕ) (bytes : AllByRecursion (�
   }
 
   by_refusal : (r s : Refusal) → end.reason ≡ Refused r → last.reason ≡ Refused s → end.at ≡ length x'.front → last.at ≡ length y'.front
-      → IsRefusedNext limit names (due_after x'.payloads) x'.events x'.deliveries (length x'.front) x'.id x'.rest new r
-      → IsRefusedNext limit names (due_after y'.payloads) y'.events y'.deliveries (length y'.front) y'.id y'.rest other s → IsSameEnd end last
+      → IsRefusedNext (rest_of x') x'.deliveries new r
+      → IsRefusedNext (rest_of y') y'.deliveries other s → IsSameEnd end last
   by_refusal r s e f here there n m =
       let one : r ≡ s = same_refusal limit names b bytes old new r end.applied x' c.has_applied.applies n s (moved s m) in
       by_reason (e ∙ ap (λ v. Refused v) one ∙ sym f) here there
@@ -395,8 +392,8 @@ pub one_ended : (limit : ℕ) (names : Names) (b : List ℕ) → AllByRecursion 
 one_ended limit names b bytes was is old new other end last h k c d =
     let x = c.reading in
     let y = d.reading in
-    elim (kind_of limit names (due_after x.payloads) x.events x.deliveries (length x.front) x.id x.rest was old new end.at end.reason h c.why) [
-      | inl s ↦ elim (kind_of limit names (due_after y.payloads) y.events y.deliveries (length y.front) y.id y.rest is old other last.at last.reason k d.why) [
+    elim (kind_of (rest_of x) x.deliveries was old new end.at end.reason h c.why) [
+      | inl s ↦ elim (kind_of (rest_of y) y.deliveries is old other last.at last.reason k d.why) [
         | inl t ↦ by_bytes limit names b bytes was is old new other end last h k c d s.of s.stops t.of t.stops
         | inr o ↦ elim o [
           | inl t ↦ absurd (not_mixed limit names b bytes was is old new other end last h k c d s.stops t.refusal t.next)
@@ -404,14 +401,14 @@ one_ended limit names b bytes was is old new other end last h k c d =
         ]
       ]
       | inr p ↦ elim p [
-        | inl s ↦ elim (kind_of limit names (due_after y.payloads) y.events y.deliveries (length y.front) y.id y.rest is old other last.at last.reason k d.why) [
+        | inl s ↦ elim (kind_of (rest_of y) y.deliveries is old other last.at last.reason k d.why) [
           | inl t ↦ absurd (not_mixed limit names b bytes is was old other new last end k h d c t.stops s.refusal s.next)
           | inr o ↦ elim o [
             | inl t ↦ by_refusal limit names b bytes was is old new other end last h k c d s.refusal t.refusal s.reason_is t.reason_is s.at_is t.at_is s.next t.next
             | inr t ↦ absurd (not_in_dump limit names b bytes is was old other new last end k h d c t.next s.refusal s.next)
           ]
         ]
-        | inr s ↦ elim (kind_of limit names (due_after y.payloads) y.events y.deliveries (length y.front) y.id y.rest is old other last.at last.reason k d.why) [
+        | inr s ↦ elim (kind_of (rest_of y) y.deliveries is old other last.at last.reason k d.why) [
           | inl t ↦ absurd (not_answered limit names b bytes was is old new other end last h k c d s.next t.stops)
           | inr o ↦ elim o [
             | inl t ↦ absurd (not_in_dump limit names b bytes was is old new other end last h k c d s.next t.refusal t.next)

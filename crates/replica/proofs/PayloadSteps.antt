@@ -4,6 +4,7 @@ use Rattle.wire.specs.declared.fault.WireFault.TheVariants as wire
 use Rattle.replica.specs.declared.phase.Phase.TheVariants as phases
 use Rattle.replica.specs.declared.phase.Login.{Login}
 use Rattle.replica.specs.declared.phase.Login.TheVariants as login
+use Rattle.replica.specs.End.{rest_of}
 use Rattle.replica.specs.Sent.{Sent}
 use Rattle.replica.specs.Standing.{Parts, Position, parts_of, sends_on, Stands, first_id_of}
 use Rattle.replica.proofs.Push.{due_push, id_is_next, could_ask, no_events, no_deliveries, responds_push, with_message}
@@ -44,7 +45,7 @@ module _ (parts : Parts) (names : Names) (pos : Position) (is : Bool) (now : Con
   pub rest_length : length h.reading.rest ≡ packing_length (length p)
   rest_length = length_packing h.whole.packing
 
-  abbrev pub stops : parts.at + length h.reading.rest < 2 ^ 64 → StopsAt parts.settings.limit names (due_after h.reading.payloads) h.reading.events (length h.reading.front) h.reading.id h.reading.rest p
+  abbrev pub stops : parts.at + length h.reading.rest < 2 ^ 64 → StopsAt (rest_of h.reading) p
   stops within = record {
     next = record { packing = h.reading.rest; more = []; after = parts.assembly.due; whole = h.whole; bytes = sym (append-nil h.reading.rest) };
     within = subst (λ n. n + length h.reading.rest < 2 ^ 64) h.at_is within;
@@ -55,7 +56,7 @@ module _ (parts : Parts) (names : Names) (pos : Position) (is : Bool) (now : Con
 
   -- it ends here, after the payloads taken
   pub ended : (reason : Reason) (broken : Bool) → reason ≢ EndOfInput
-      → Why parts.settings.limit names (due_after h.reading.payloads) h.reading.events h.reading.deliveries (length h.reading.front) h.reading.id h.reading.rest pos.was pos.old now parts.at reason
+      → Why (rest_of h.reading) h.reading.deliveries pos.was pos.old now parts.at reason
       → BreaksStore reason pos.was broken → HasEnded parts.settings names pos broken now (record { reason = reason; at = parts.at; applied = parts.applied })
   ended reason broken more why store = record {
     conn = record { reading = h.reading; has_applied = h.has_applied; why = why; kept = h.kept };

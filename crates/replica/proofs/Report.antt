@@ -1,7 +1,8 @@
 -- What an end reports.
-use Rattle.replica.proofs.Names.{◌≡◌, ◌⊎◌, ap, ℕ, Bool, List, ◌++◌, length, refl, inl, inr, Some, None, MatchOption, unwrap_or, Names, Content, Reason, EndOfInput, SourceEof, SourceError, Wire, Greet, Event, Gather, Ended, Session, Reading, due_after, End, StopsFor, Conn, AppliesFirst, Why, IsDumpTooLong, GoesOn, HasEnded, end_of}
+use Rattle.replica.proofs.Names.{◌≡◌, ◌⊎◌, ap, ℕ, Bool, List, ◌++◌, length, refl, inl, inr, Some, None, MatchOption, unwrap_or, Names, Content, Reason, EndOfInput, SourceEof, SourceError, Wire, Greet, Event, Gather, Ended, Session, Reading, End, StopsFor, Conn, AppliesFirst, Why, IsDumpTooLong, GoesOn, HasEnded, end_of}
 use Rattle.std.proofs.Common.{◌↔◌}
 use Rattle.wire.specs.declared.fault.WireFault.TheVariants as wire
+use Rattle.replica.specs.End.{rest_of}
 use Rattle.replica.specs.Conn.{IsOfBytes}
 use Rattle.replica.specs.Standing.{Position, parts_of, sends_on, Stands}
 
@@ -9,8 +10,8 @@ pub begun_of : (limit : ℕ) (names : Names) (was : Bool) (old : Content) (b : L
 begun_of limit names was old b new end c = (length c.reading.deliveries, record { reading = c.reading; counted = refl; has_applied = c.has_applied })
 
 stops_of : (limit : ℕ) (names : Names) (was : Bool) (old new : Content) (b : List ℕ) (r : Reading limit names b) (at : ℕ) (reason : Reason) → IsOfBytes reason
-    → Why limit names (due_after r.payloads) r.events r.deliveries (length r.front) r.id r.rest was old new at reason
-    → StopsFor limit names (due_after r.payloads) r.events (length r.front) r.id r.rest at reason ⊎ ((reason ≡ Wire wire.TooLarge) × IsDumpTooLong old.executed)
+    → Why (rest_of r) r.deliveries was old new at reason
+    → StopsFor (rest_of r) at reason ⊎ ((reason ≡ Wire wire.TooLarge) × IsDumpTooLong old.executed)
 stops_of limit names was old new b r at EndOfInput h w = inl w
 stops_of limit names was old new b r at SourceEof h w = inl w
 stops_of limit names was old new b r at (SourceError code state message) h w = inl w

@@ -1,5 +1,5 @@
 -- A replica that asks a scripted source again.
-use Rattle.replica.proofs.Names.{◌≡◌, ℕ, ◌+◌, ◌^◌, ◌<◌, ◌≤◌, Bool, true, false, List, [], ◌∷◌, ◌++◌, length, take, map, refl, sym, ap, subst, ◌∙◌, append_assoc, append-nil, arith, length-append, map-append, take-append-drop, false≢true, AllByRecursion, nothing_yet, DumpValue, IsDump, IsUnfinished, Payload, Ids, IsEncoding, little_bytes, Names, EventValue, IsFromBytes, DeliveryValue, AreDeliveries, one_list_of_deliveries, Content, Ended, Due, Hello, InDump, IsInDump, Talks, Reading, due_after, AppliesAll, IsDumpTooLong, Why, Conn, AppliesFirst, ScriptValue, CanSend, events_of, transaction, transactions}
+use Rattle.replica.proofs.Names.{◌≡◌, ℕ, ◌+◌, ◌^◌, ◌<◌, ◌≤◌, Bool, true, false, List, [], ◌∷◌, ◌++◌, length, take, map, refl, sym, ap, subst, ◌∙◌, append_assoc, append-nil, arith, length-append, map-append, take-append-drop, false≢true, AllByRecursion, nothing_yet, DumpValue, IsDump, IsUnfinished, Payload, Ids, IsEncoding, little_bytes, Names, EventValue, IsFromBytes, DeliveryValue, AreDeliveries, one_list_of_deliveries, Content, Ended, Hello, InDump, IsInDump, Talks, Reading, due_after, AppliesAll, IsDumpTooLong, Why, Conn, AppliesFirst, ScriptValue, CanSend, events_of, transaction, transactions}
 use Rattle.std.proofs.Common.{drop}
 use Rattle.std.proofs.Math.Seq.{take-length}
 use Rattle.std.proofs.lemmas.List.{length-map, length-take, length-take-le}
@@ -10,6 +10,7 @@ use Rattle.gather.proofs.ShorterLists as shortening
 use Rattle.store.specs.Open.{nothing}
 use Rattle.replica.proofs.Push.{applies_push}
 use Rattle.scripted_source.specs.Source.{ArePackings, due, payloads_of, end_payloads, eof_payload, sent_payloads, is_once}
+use Rattle.replica.specs.End.{Rest, rest_of}
 use Rattle.replica.specs.Resume.{Reaches, Exchange, Resumes, end_reason, Leads}
 use Rattle.replica.proofs.ScriptEvents.{seen, delivers}
 use Rattle.replica.proofs.Bytes.{all_front, all_back}
@@ -74,12 +75,12 @@ reaches_on names history j held last ds others applied new reached left parts ap
 
 -- ---- What the source sends.
 
--- the answer is that for the content's set
-pub record Sends (limit : ℕ) (names : Names) (history : List ScriptValue) (j : ℕ) (once : Bool) (greeting login query : Payload) (answer : List ℕ) : Type 0 where
-  pub can : AllByRecursion CanSend (drop j history)
+-- the answer is that for the content's set: the scripts that are left of the history
+pub record Sends (limit : ℕ) (scripts : List ScriptValue) (once : Bool) (greeting login query : Payload) (answer : List ℕ) : Type 0 where
+  pub can : AllByRecursion CanSend scripts
   pub last : ℕ
-  pub packings : ArePackings 1 (sent_payloads once (drop j history)) answer last
-  pub short : AllByRecursion (λ p. length p ≤ limit) (greeting ∷ login ∷ query ∷ sent_payloads once (drop j history))
+  pub packings : ArePackings 1 (sent_payloads once scripts) answer last
+  pub short : AllByRecursion (λ p. length p ≤ limit) (greeting ∷ login ∷ query ∷ sent_payloads once scripts)
 
 one_set : (a b : Ids) (bytes : List ℕ) → IsEncoding a bytes → IsEncoding b bytes → a ≡ b
 one_set a b bytes x y = (one_front a b bytes bytes [] [] x y refl).0
@@ -92,12 +93,12 @@ dump_length d name position eight =
 
 -- ---- The end.
 
-ends_so : (limit : ℕ) (names : Names) (awaited : Due) (es : List EventValue) (ds : List DeliveryValue) (once : Bool) (front back all : List ℕ) (mid last : ℕ) (old new : Content) → awaited ≡ InDump → all ≡ front ++ back
-    → length all < 2 ^ 64 → ArePackings mid (end_payloads once) back last → AllByRecursion (λ p. length p ≤ limit) (end_payloads once)
-    → Why limit names awaited es ds (length front) mid back false old new (length all) (end_reason once)
-ends_so limit names awaited es ds true front back all mid last old new in_dump is small a short =
-    let whole : back ≡ a.0 = a.3 ∙ ap (λ (l : List ℕ). a.0 ++ l) a.5.0 ∙ append-nil a.0 in
-    let sizes : length all ≡ length front + length a.0 = ap length is ∙ length-append front back ∙ ap (λ (l : List ℕ). length front + length l) whole in
+ends_so : (rest : Rest) (ds : List DeliveryValue) (once : Bool) (front all : List ℕ) (last : ℕ) (old new : Content) → rest.due ≡ InDump → rest.taken ≡ length front → all ≡ front ++ rest.bytes
+    → length all < 2 ^ 64 → ArePackings rest.id (end_payloads once) rest.bytes last → AllByRecursion (λ p. length p ≤ rest.limit) (end_payloads once)
+    → Why rest ds false old new (length all) (end_reason once)
+ends_so rest ds true front all last old new in_dump taken is small a short =
+    let whole : rest.bytes ≡ a.0 = a.3 ∙ ap (λ (l : List ℕ). a.0 ++ l) a.5.0 ∙ append-nil a.0 in
+    let sizes : length all ≡ rest.taken + length a.0 = ap length is ∙ length-append front rest.bytes ∙ ap (λ n. n + length rest.bytes) (sym taken) ∙ ap (λ (l : List ℕ). rest.taken + length l) whole in
     record {
       payload = eof_payload;
       stops = record { next = record { packing = a.0; more = a.1; after = a.2; whole = record { packing = a.4; within = short.0 }; bytes = a.3 }; within = omega (arith, sizes, small) };
@@ -105,8 +106,10 @@ ends_so limit names awaited es ds true front back all mid last old new in_dump i
       is_eof = record { counters = 0 ∷ 0 ∷ 2 ∷ 0 ∷ []; ignored = []; payload_is = refl; size = refl; short = omega arith };
       at_is = sizes;
     }
-ends_so limit names awaited es ds false front back all mid last old new in_dump is small a short =
-    (ap length is ∙ length-append front back ∙ (let none : length back ≡ 0 = ap length a.0 in omega (arith, none)), subst (λ l. IsUnfinished mid limit l) (sym a.0) (nothing_yet mid limit))
+ends_so rest ds false front all last old new in_dump taken is small a short = (
+  ap length is ∙ length-append front rest.bytes ∙ (let none : length rest.bytes ≡ 0 = ap length a.0 in omega (arith, none, taken)),
+  subst (λ l. IsUnfinished rest.id rest.limit l) (sym a.0) (nothing_yet rest.id rest.limit),
+)
 
 begun_by : (all first others mine : List DeliveryValue) → all ≡ first ++ others → first ≡ mine → all ≡ mine ++ others
 begun_by all first others mine is same = is ∙ ap (λ l. l ++ others) same
@@ -130,7 +133,7 @@ module _ (one_dump : (a b : DumpValue) (payload : List ℕ) → IsDump a payload
   once_is : is_once r.answers.dump.flags ≡ is_once r.dump.flags
   once_is = ap (λ (d : DumpValue). is_once d.flags) same_dump
 
-  sends : Sends limit names history j (is_once r.dump.flags) r.greeting r.login r.query answer
+  sends : Sends limit (drop j history) (is_once r.dump.flags) r.greeting r.login r.query answer
   sends = record {
     can = subst (λ l. AllByRecursion CanSend l) due_is r.answers.can;
     last = r.answers.last;
@@ -194,7 +197,7 @@ module _ (one_dump : (a b : DumpValue) (payload : List ℕ) → IsDump a payload
     conn = record {
       reading = reading;
       has_applied = record { applies = left.applies; asked = λ _ long. not_long long };
-      why = ends_so limit names (due_after payloads) events (transactions names (drop j history)) (is_once r.dump.flags) (opening ++ c.front) c.back (opening ++ answer) c.mid sends.last held last dump_is_due bytes_are small c.second
+      why = ends_so (rest_of reading) (transactions names (drop j history)) (is_once r.dump.flags) (opening ++ c.front) (opening ++ answer) sends.last held last dump_is_due refl bytes_are small c.second
           (all_back (λ p. length p ≤ limit) (payloads_of (events_of (drop j history))) (end_payloads (is_once r.dump.flags)) sends.short.1.1.1);
       kept = λ broken. absurd (false≢true broken);
     }

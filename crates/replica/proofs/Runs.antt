@@ -100,7 +100,8 @@ module _ {S : Type 0} (g : Ghosts S) where
     is = r.is;
     new = r.new;
     holds = r.holds;
-    history = subst (λ n. History limit n was old (bs ++ b ∷ []) r.is r.new (ends ++ end ∷ [])) (sym r.following) (history-append limit before.following was old bs t.is t.new ends b r.is r.new end t.history r.conn r.breaks);
+    history = subst (λ n. History limit n (record { broken = was; content = old }) (bs ++ b ∷ []) (record { broken = r.is; content = r.new }) (ends ++ end ∷ [])) (sym r.following)
+        (history-append limit before.following (record { broken = was; content = old }) bs (record { broken = t.is; content = t.new }) ends b (record { broken = r.is; content = r.new }) end t.history r.conn r.breaks);
     schema_is = λ w. elim (either t.is) [
       | inl f ↦ r.schema_is w ∙ t.schema_is f
       | inr q ↦ (
@@ -116,8 +117,9 @@ module _ {S : Type 0} (g : Ghosts S) where
             let l = (r.leaves f).each trees may in (
               l.0,
               subst (λ sc. AreOf sc store.following l.0 trees) (t.schema_is f) l.1,
-              subst (λ n. IsLeftOfAll limit n was old (bs ++ b ∷ []) r.new (ends ++ end ∷ []) l.0) (sym r.following)
-                  (here limit before.following was old bs t.new ends b r.new end l.0 (subst (λ v. History limit before.following was old bs v t.new ends) f t.history) (subst (λ v. Conn limit before.following v t.new b r.new end) f r.conn) l.2),
+              subst (λ n. IsLeftOfAll limit n (record { broken = was; content = old }) (bs ++ b ∷ []) r.new (ends ++ end ∷ []) l.0) (sym r.following)
+                  (here limit before.following (record { broken = was; content = old }) bs t.new ends b r.new end l.0
+                  (subst (λ v. History limit before.following (record { broken = was; content = old }) bs (record { broken = v; content = t.new }) ends) f t.history) (subst (λ v. Conn limit before.following v t.new b r.new end) f r.conn) l.2),
             )
             )
         | inr q ↦ (
@@ -125,8 +127,8 @@ module _ {S : Type 0} (g : Ghosts S) where
             let l = (t.leaves w).each trees (subst (λ (s : Store S g). (state g s.conn).may_leave trees) e may) in (
               l.0,
               subst (λ (s : Store S g). AreOf schema s.following l.0 trees) (sym e) l.1,
-              subst (λ n. IsLeftOfAll limit n was old (bs ++ b ∷ []) r.new (ends ++ end ∷ []) l.0) (sym r.following)
-                  (stays limit before.following was old bs t.new r.new ends b end l.0 (r.conn.kept q) l.2),
+              subst (λ n. IsLeftOfAll limit n (record { broken = was; content = old }) (bs ++ b ∷ []) r.new (ends ++ end ∷ []) l.0) (sym r.following)
+                  (stays limit before.following (record { broken = was; content = old }) bs t.new r.new ends b end l.0 (r.conn.kept q) l.2),
             )
             )
       ];

@@ -3,6 +3,7 @@ use Rattle.replica.proofs.Names.{◌≡◌, ℕ, zero, suc, ◌+◌, ◌^◌, �
 use Rattle.wire.specs.declared.fault.WireFault.TheVariants as wire
 use Rattle.wire.specs.Stream.{Ending, Held, OutOfSequence, TooLarge, IsStream}
 use Rattle.wire.proofs.SomeReading.{some_reading}
+use Rattle.replica.specs.End.{Rest, rest_of}
 use Rattle.replica.specs.Conn.{HasApplied}
 use Rattle.replica.specs.Outcome.{HasEnd}
 use Rattle.replica.proofs.Bytes.{all_front, all_back, packed_bytes}
@@ -39,8 +40,8 @@ query _ = inr (λ e. cc)
 
 -- ---- A payload that is not the expected message ends the connection.
 
-module _ (limit : ℕ) (names : Names) (due : Due) (es : List EventValue) (ds : List DeliveryValue) (taken id : ℕ) (rest : List ℕ) (old new : Content) where
-  denied_so : (p : Payload) (reason : Reason) → StopsAt limit names due es taken id rest p → Denies names due es p reason → IsInFull reason × Why limit names due es ds taken id rest false old new taken reason
+module _ (rest : Rest) (ds : List DeliveryValue) (old new : Content) where
+  denied_so : (p : Payload) (reason : Reason) → StopsAt rest p → Denies rest.names rest.due rest.events p reason → IsInFull reason × Why rest ds false old new rest.taken reason
   denied_so p (SourceError code state message) s d = (tt, (refl, record { payload = p; stops = s; denied = d }))
   denied_so p (Greet fault) s d = (tt, (refl, record { payload = p; stops = s; denied = d }))
   denied_so p (Event fault) s d = (tt, (refl, record { payload = p; stops = s; denied = d }))
@@ -74,7 +75,7 @@ module _ (limit : ℕ) (names : Names) (old : Content) (b : List ℕ) (bytes : I
     due = due_after r.payloads
 
     -- it ends here
-    stop : (at : ℕ) (reason : Reason) → IsInFull reason → Why limit names due r.events r.deliveries (length r.front) r.id r.rest false old now at reason → HasEnd limit names old b
+    stop : (at : ℕ) (reason : Reason) → IsInFull reason → Why (rest_of r) r.deliveries false old now at reason → HasEnd limit names old b
     stop at reason full why = record {
       new = now;
       end = record { reason = reason; at = at; applied = applied };
@@ -94,7 +95,7 @@ module _ (limit : ℕ) (names : Names) (old : Content) (b : List ℕ) (bytes : I
         within : length r.front + length n.packing < 2 ^ 64
         within = omega (arith, short, ap length r.bytes, length-append r.front r.rest, ap length n.bytes, length-append n.packing n.more)
 
-        abbrev stops : StopsAt limit names due r.events (length r.front) r.id r.rest p
+        abbrev stops : StopsAt (rest_of r) p
         stops = record { next = n; within = within }
 
         on : (first : List EventValue) (more : List DeliveryValue) (m : ℕ) (c : Content) → Answers names due p first → AreDeliveries (r.events ++ first) (r.deliveries ++ more) → AppliesAll names now more m c
@@ -140,7 +141,7 @@ module _ (limit : ℕ) (names : Names) (old : Content) (b : List ℕ) (bytes : I
         of_payload (goes_on i e c d) = of_event i e c d
         of_payload (ends_one i e c d are) = of_transaction i e c d are (some_outcome names now d)
         of_payload (ends_log i eof) = stop (length r.front + length n.packing) SourceEof tt (record { payload = p; stops = stops; in_dump = i; is_eof = eof; at_is = refl })
-        of_payload (is_denied reason d) = let k = denied_so limit names due r.events r.deliveries (length r.front) r.id r.rest old now p reason stops d in stop (length r.front) reason k.0 k.1
+        of_payload (is_denied reason d) = let k = denied_so (rest_of r) r.deliveries old now p reason stops d in stop (length r.front) reason k.0 k.1
 
         payload_bytes : IsBytes p
         payload_bytes = packed_bytes r.id p n.packing n.after n.whole.packing (all_front (λ v. v < 256) n.packing n.more (subst (λ l. IsBytes l) n.bytes rest_bytes))

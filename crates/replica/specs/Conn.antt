@@ -21,7 +21,7 @@ use Rattle.replica.specs.declared.end.Reason.TheVariants.{EndOfInput, Wire, Refu
 use Rattle.replica.specs.declared.end.Ended.{Ended}
 use Rattle.replica.specs.Stream.{Due, QueryReply, IsInDump, Carries, Reading, due_after}
 use Rattle.wire.specs.Payload.{Payload}
-use Rattle.replica.specs.End.{StopsAt, EndsLog, StopsFor}
+use Rattle.replica.specs.End.{Rest, rest_of, StopsAt, EndsLog, StopsFor}
 
 -- ---- Transactions in order.
 
@@ -67,28 +67,28 @@ abbrev pub FailsFor : Bool → Bool → StoreFault → Type 0
 FailsFor was_broken executed cause =
     ((e : Error) × (cause ≡ fault.Database e) × (was_broken ≡ false) × (executed ≡ false)) ⊎ ((cause ≡ fault.Broken) × (was_broken ≡ true))
 
-module _ (limit : ℕ) (names : Names) (due : Due) (es : List EventValue) (ds : List DeliveryValue) (taken id : ℕ) (rest : List ℕ) where
+module _ (rest : Rest) (ds : List DeliveryValue) where
   -- The next payload has an event that ends the transaction.
   pub record NextEnds (d : DeliveryValue) : Type 0 where
     pub payload : Payload
-    pub stops : StopsAt limit names due es taken id rest payload
-    pub in_dump : IsInDump due
+    pub stops : StopsAt rest payload
+    pub in_dump : IsInDump rest.due
     pub event : EventValue
-    pub carries : Carries names payload event
-    pub delivers : AreDeliveries (es ++ event ∷ []) (ds ++ d ∷ [])
+    pub carries : Carries rest.names payload event
+    pub delivers : AreDeliveries (rest.events ++ event ∷ []) (ds ++ d ∷ [])
 
   -- The next payload is the reply to the query.
   pub record NextAnswers : Type 0 where
     pub payload : Payload
-    pub stops : StopsAt limit names due es taken id rest payload
-    pub due_is : due ≡ QueryReply
+    pub stops : StopsAt rest payload
+    pub due_is : rest.due ≡ QueryReply
     pub is_ok : IsOkPacket payload
 
   -- The next payload ends a transaction that is refused.
   pub record IsRefusedNext (new : Content) (refusal : Refusal) : Type 0 where
     pub delivery : DeliveryValue
     pub ends : NextEnds delivery
-    pub refused : IsRefusedBy names new delivery refusal
+    pub refused : IsRefusedBy rest.names new delivery refusal
 
   -- The next payload ends a transaction in which the database failed, or for which the store had failed before.
   pub record FailsNext (was_broken : Bool) (new : Content) (cause : StoreFault) : Type 0 where
@@ -106,18 +106,18 @@ module _ (limit : ℕ) (names : Names) (due : Due) (es : List EventValue) (ds : 
   abbrev pub Why : Bool → Content → Content → ℕ → Reason → Type 0
   -- a header is wrong, or the dump command would be too long
   Why was old new at (Wire f) =
-      StopsFor limit names due es taken id rest at (Wire f) ⊎ ((f ≡ wire.TooLarge) × (at ≡ taken) × NextAnswers × IsDumpTooLong old.executed)
-  Why was old new at (Refused refusal) = (at ≡ taken) × IsRefusedNext new refusal
-  Why was old new at (Database cause) = (at ≡ taken) × FailsNext was new cause
-  Why was old new at Memory = at ≡ taken
-  Why was old new at ReadFailed = at ≡ taken
+      StopsFor rest at (Wire f) ⊎ ((f ≡ wire.TooLarge) × (at ≡ rest.taken) × NextAnswers × IsDumpTooLong old.executed)
+  Why was old new at (Refused refusal) = (at ≡ rest.taken) × IsRefusedNext new refusal
+  Why was old new at (Database cause) = (at ≡ rest.taken) × FailsNext was new cause
+  Why was old new at Memory = at ≡ rest.taken
+  Why was old new at ReadFailed = at ≡ rest.taken
   -- the pending output may be sent after the end of the log
-  Why was old new at WriteFailed = (at ≡ taken) ⊎ EndsLog limit names due es taken id rest at
-  Why was old new at Halted = (at ≡ taken) × IsNextNew new
+  Why was old new at WriteFailed = (at ≡ rest.taken) ⊎ EndsLog rest at
+  Why was old new at Halted = (at ≡ rest.taken) × IsNextNew new
   -- the observer waits for nothing more
-  Why was old new at Until = at ≡ taken
+  Why was old new at Until = at ≡ rest.taken
   -- the other reasons are caused by the bytes
-  Why was old new at reason = StopsFor limit names due es taken id rest at reason
+  Why was old new at reason = StopsFor rest at reason
 
 -- A connection with these bytes, for a store that had failed before or not, leads from old to new and has this end: a
 -- prefix of its bytes is a conversation, whose transactions are applied in order and none refused. If the store had
@@ -125,7 +125,7 @@ module _ (limit : ℕ) (names : Names) (due : Due) (es : List EventValue) (ds : 
 pub record Conn (limit : ℕ) (names : Names) (was_broken : Bool) (old : Content) (b : List ℕ) (new : Content) (end : Ended) : Type 0 where
   pub reading : Reading limit names b
   pub has_applied : HasApplied names old reading.deliveries (due_after reading.payloads) end.applied new
-  pub why : Why limit names (due_after reading.payloads) reading.events reading.deliveries (length reading.front) reading.id reading.rest was_broken old new end.at end.reason
+  pub why : Why (rest_of reading) reading.deliveries was_broken old new end.at end.reason
   pub kept : was_broken ≡ true → new ≡ old
 
 -- the end with another reason
@@ -156,13 +156,18 @@ BreaksStore (Database cause) was is = is ≡ true
 BreaksStore Memory was is = was ≡ true → is ≡ true
 BreaksStore _ was is = is ≡ was
 
+-- What a store holds: whether it has failed, and its content.
+pub record StoreState : Type 0 where
+  pub broken : Bool
+  pub content : Content
+
 -- The connections in order, each beginning with what the one before it left.
-abbrev pub History : ℕ → Names → Bool → Content → List (List ℕ) → Bool → Content → List Ended → Type 0
-History limit names was old [] is new [] = (is ≡ was) × (new ≡ old)
-History limit names was old (b ∷ bs) is new (end ∷ ends) =
-    (mid : Content) × (between : Bool) × Conn limit names was old b mid end × BreaksStore end.reason was between × History limit names between mid bs is new ends
-History limit names was old [] is new (end ∷ ends) = ⊥
-History limit names was old (b ∷ bs) is new [] = ⊥
+abbrev pub History : ℕ → Names → StoreState → List (List ℕ) → StoreState → List Ended → Type 0
+History limit names before [] after [] = (after.broken ≡ before.broken) × (after.content ≡ before.content)
+History limit names before (b ∷ bs) after (end ∷ ends) =
+    (mid : StoreState) × Conn limit names before.broken before.content b mid.content end × BreaksStore end.reason before.broken mid.broken × History limit names mid bs after ends
+History limit names before [] after (end ∷ ends) = ⊥
+History limit names before (b ∷ bs) after [] = ⊥
 
 -- The end is caused by the bytes of the connection, and not by a refused transaction or a failure.
 abbrev pub IsOfBytes : Reason → Type 0

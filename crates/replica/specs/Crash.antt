@@ -1,5 +1,5 @@
 -- What a crash may leave of connections.
-use Rattle.std.specs.Prelude.{◌≡◌, ℕ, ◌+◌, ◌⊎◌, Bool, false, List, ◌∷◌, ◌++◌, length}
+use Rattle.std.specs.Prelude.{◌≡◌, ℕ, ◌+◌, ◌⊎◌, false, List, ◌∷◌, ◌++◌, length}
 use Rattle.binlog.specs.Filter.{Names}
 use Rattle.gather.specs.Transaction.{DeliveryValue}
 use Rattle.store.specs.State.{Content}
@@ -9,7 +9,8 @@ use Rattle.store.specs.declared.fault.StoreFault.TheVariants as fault
 use Rattle.replica.specs.declared.end.Reason.TheVariants.{Database}
 use Rattle.replica.specs.declared.end.Ended.{Ended}
 use Rattle.replica.specs.Stream.{Reading, due_after}
-use Rattle.replica.specs.Conn.{HasApplied, NextEnds, Conn, AppliesFirst, History}
+use Rattle.replica.specs.End.{rest_of}
+use Rattle.replica.specs.Conn.{HasApplied, NextEnds, Conn, AppliesFirst, StoreState, History}
 
 -- The database failed in the transaction that the next payload ends, and what is left has this transaction too.
 pub record IsOneMore (limit : ℕ) (names : Names) (old : Content) (b : List ℕ) (new : Content) (end : Ended) (left : Content) : Type 0 where
@@ -19,7 +20,7 @@ pub record IsOneMore (limit : ℕ) (names : Names) (old : Content) (b : List ℕ
   pub at_is : end.at ≡ length reading.front
   pub has_applied : HasApplied names old reading.deliveries (due_after reading.payloads) end.applied new
   pub next : DeliveryValue
-  pub ends : NextEnds limit names (due_after reading.payloads) reading.events reading.deliveries (length reading.front) reading.id reading.rest next
+  pub ends : NextEnds (rest_of reading) reading.deliveries next
   pub outcome : HasOutcome names new next (done left)
 
 -- What a crash leaves of a connection: the transactions that were applied, or one more if the database failed.
@@ -35,7 +36,7 @@ pub record LeavesFirst (limit : ℕ) (names : Names) (old : Content) (b : List �
 
 -- As IsOneMore, for a list of connections: the additional transaction is of the first connection in which the database
 -- failed.
-pub record IsOneMoreIn (limit : ℕ) (names : Names) (was : Bool) (old : Content) (bs : List (List ℕ)) (ends : List Ended) (left : Content) : Type 0 where
+pub record IsOneMoreIn (limit : ℕ) (names : Names) (first : StoreState) (bs : List (List ℕ)) (ends : List Ended) (left : Content) : Type 0 where
   pub before : List (List ℕ)
   pub b : List ℕ
   pub after : List (List ℕ)
@@ -47,9 +48,9 @@ pub record IsOneMoreIn (limit : ℕ) (names : Names) (was : Bool) (old : Content
   pub connections : bs ≡ before ++ b ∷ after
   pub ends_are : ends ≡ ends_before ++ end ∷ ends_after
   -- the store has not failed before
-  pub history : History limit names was old before false mid ends_before
+  pub history : History limit names first before (record { broken = false; content = mid }) ends_before
   pub conn : Conn limit names false mid b new end
   pub more : IsOneMore limit names mid b new end left
 
-abbrev pub IsLeftOfAll : ℕ → Names → Bool → Content → List (List ℕ) → Content → List Ended → Content → Type 0
-IsLeftOfAll limit names was old bs new ends left = (left ≡ new) ⊎ IsOneMoreIn limit names was old bs ends left
+abbrev pub IsLeftOfAll : ℕ → Names → StoreState → List (List ℕ) → Content → List Ended → Content → Type 0
+IsLeftOfAll limit names first bs new ends left = (left ≡ new) ⊎ IsOneMoreIn limit names first bs ends left

@@ -39,50 +39,63 @@ IsWrong id limit rest wire.TooLarge = IsTooLarge id limit rest
 IsWrong id limit rest wire.Memory = ⊥
 IsWrong id limit rest wire.Ended = ⊥
 
--- After `taken` bytes of a conversation, where this message is expected and its packing has this id, the rest of the
--- connection's bytes follow.
-module _ (limit : ℕ) (names : Names) (due : Due) (es : List EventValue) (taken id : ℕ) (rest : List ℕ) where
+-- What follows the first bytes of a connection: after so many bytes of a conversation and these events, where this message is
+-- expected and its packing has this sequence id, the remaining bytes; under this limit on a payload, for these tables.
+pub record Rest : Type 0 where
+  pub limit : ℕ
+  pub names : Names
+  pub due : Due
+  pub events : List EventValue
+  pub taken : ℕ
+  pub id : ℕ
+  pub bytes : List ℕ
+
+-- what follows the bytes that were read
+abbrev pub rest_of : {limit : ℕ} {names : Names} {b : List ℕ} → Reading limit names b → Rest
+rest_of {limit} {names} r = record { limit = limit; names = names; due = due_after r.payloads; events = r.events; taken = length r.front; id = r.id; bytes = r.rest }
+
+module _ (rest : Rest) where
   -- The next payload is whole, and ends within 2 ^ 64 - 1 bytes.
   pub record StopsAt (p : Payload) : Type 0 where
-    pub next : HasNext limit id rest p
-    pub within : taken + length next.packing < 2 ^ 64
+    pub next : HasNext rest.limit rest.id rest.bytes p
+    pub within : rest.taken + length next.packing < 2 ^ 64
 
   -- The next payload is whole, and ends after that many bytes.
   pub record PassesEnd : Type 0 where
     pub payload : Payload
-    pub next : HasNext limit id rest payload
-    pub beyond : 2 ^ 64 ≤ taken + length next.packing
+    pub next : HasNext rest.limit rest.id rest.bytes payload
+    pub beyond : 2 ^ 64 ≤ rest.taken + length next.packing
 
   -- The next payload is an EOF at the end of the log, and its packing is taken.
   pub record EndsLog (at : ℕ) : Type 0 where
     pub payload : Payload
     pub stops : StopsAt payload
-    pub in_dump : IsInDump due
+    pub in_dump : IsInDump rest.due
     pub is_eof : IsEofPacket payload
-    pub at_is : at ≡ taken + length stops.next.packing
+    pub at_is : at ≡ rest.taken + length stops.next.packing
 
   -- The next payload is not the expected message.
   pub record EndsWith (reason : Reason) : Type 0 where
     pub payload : Payload
     pub stops : StopsAt payload
-    pub denied : Denies names due es payload reason
+    pub denied : Denies rest.names rest.due rest.events payload reason
 
   -- The reading stops at this offset, for this reason: no payload is whole; the log ends; a payload is not the expected
   -- message; a header is wrong, or the payload ends after 2 ^ 64 - 1 bytes. The other reasons are not caused by the
   -- bytes.
   abbrev pub StopsFor : ℕ → Reason → Type 0
-  StopsFor at EndOfInput = (at ≡ taken) × IsUnfinished id limit rest
+  StopsFor at EndOfInput = (at ≡ rest.taken) × IsUnfinished rest.id rest.limit rest.bytes
   StopsFor at SourceEof = EndsLog at
-  StopsFor at (SourceError code state message) = (at ≡ taken) × EndsWith (SourceError code state message)
-  StopsFor at (Wire fault) = (at ≡ taken) × (IsWrong id limit rest fault ⊎ ((fault ≡ wire.TooLarge) × PassesEnd))
-  StopsFor at (Greet fault) = (at ≡ taken) × EndsWith (Greet fault)
-  StopsFor at (Event fault) = (at ≡ taken) × EndsWith (Event fault)
-  StopsFor at (Gather fault) = (at ≡ taken) × EndsWith (Gather fault)
+  StopsFor at (SourceError code state message) = (at ≡ rest.taken) × EndsWith (SourceError code state message)
+  StopsFor at (Wire fault) = (at ≡ rest.taken) × (IsWrong rest.id rest.limit rest.bytes fault ⊎ ((fault ≡ wire.TooLarge) × PassesEnd))
+  StopsFor at (Greet fault) = (at ≡ rest.taken) × EndsWith (Greet fault)
+  StopsFor at (Event fault) = (at ≡ rest.taken) × EndsWith (Event fault)
+  StopsFor at (Gather fault) = (at ≡ rest.taken) × EndsWith (Gather fault)
   StopsFor at _ = ⊥
 
 -- the reading of these bytes stops at this offset, for this reason
 abbrev pub Stops : (limit : ℕ) (names : Names) (b : List ℕ) → Reading limit names b → ℕ → Reason → Type 0
-Stops limit names b r at reason = StopsFor limit names (due_after r.payloads) r.events (length r.front) r.id r.rest at reason
+Stops limit names b r at reason = StopsFor (rest_of r) at reason
 
 -- The end of a connection that its bytes cause.
 pub record End (limit : ℕ) (names : Names) (b : List ℕ) (reason : Reason) (at : ℕ) : Type 0 where

@@ -79,6 +79,6 @@ module _ {S : Type 0} (g : Ghosts S) where
     pub is : Bool
     pub new : Content
     pub holds : HoldsAs g is new store
-    pub history : History limit (names_of g store) was old bs is new ends
+    pub history : History limit (names_of g store) (record { broken = was; content = old }) bs (record { broken = is; content = new }) ends
     pub schema_is : is ≡ false → (database g store).now.schema ≡ schema
-    pub leaves : was ≡ false → LeavesOnly schema store (IsLeftOfAll limit (names_of g store) was old bs new ends)
+    pub leaves : was ≡ false → LeavesOnly schema store (IsLeftOfAll limit (names_of g store) (record { broken = was; content = old }) bs new ends)

@@ -23,7 +23,7 @@ module _ {D : Type 0} (g : Ghosts D) where
   pub record LeadsTo (limit : ℕ) (names : Names) (old : Content) (files : Files D) (bs : List (List ℕ)) (ends : List Ended) : Type 0 where
     pub is : Bool
     pub new : Content
-    pub history : History limit names false old bs is new ends
+    pub history : History limit names (record { broken = false; content = old }) bs (record { broken = is; content = new }) ends
     pub closed : AreClosedWith g names new files
 
   -- Connections with these bytes and ends lead from a content to another. Files that could not be closed may be left with
@@ -31,8 +31,8 @@ module _ {D : Type 0} (g : Ghosts D) where
   pub record MayLeave (limit : ℕ) (names : Names) (old : Content) (last : FileStore D g) (bs : List (List ℕ)) (ends : List Ended) : Type 0 where
     pub is : Bool
     pub new : Content
-    pub history : History limit names false old bs is new ends
-    pub each : (trees : Trees) → recovers last trees → (left : Content) × IsLeftOfAll limit names false old bs new ends left × ((only : Names) → IsLeft only names left trees)
+    pub history : History limit names (record { broken = false; content = old }) bs (record { broken = is; content = new }) ends
+    pub each : (trees : Trees) → recovers last trees → (left : Content) × IsLeftOfAll limit names (record { broken = false; content = old }) bs new ends left × ((only : Names) → IsLeft only names left trees)
 
 -- The captures were read in order, each once, from a content to another, which is in the closed files.
 abbrev pub Replays : {D : Type 0} {g : Ghosts D} {R : Type 0} → (R → Option (List ℕ)) → ℕ → Names → Content → List (Capture R) → Replayed D g → Type 0

@@ -9,9 +9,9 @@ use Rattle.gtid.specs.Identifier.{Ids}
 use Rattle.gtid.specs.Encoding.{IsEncoding}
 use Rattle.binlog.specs.Filter.{Names}
 use Rattle.replica.specs.Settings.{Settings}
-use Rattle.replica.specs.Stream.{Due, Hello, Reply, SecondReply, QueryReply, InDump, next_due, Reading, due_after}
+use Rattle.replica.specs.Stream.{Due, Hello, Reply, SecondReply, QueryReply, InDump, next_due, Reading}
 use Rattle.wire.specs.Payload.{Payload}
-use Rattle.replica.specs.End.{EndsLog}
+use Rattle.replica.specs.End.{EndsLog, rest_of}
 
 -- the response to a scramble: empty for the empty password
 abbrev pub auth_bytes : List ℕ → List ℕ → List ℕ
@@ -79,7 +79,7 @@ module _ (settings : Settings) (executed : Ids) where
 pub record Taken (limit : ℕ) (names : Names) (b : List ℕ) (at : ℕ) (payloads : List Payload) : Type 0 where
   pub reading : Reading limit names b
   pub payloads_are : payloads ≡ reading.payloads
-  pub at_is : (at ≡ length reading.front) ⊎ EndsLog limit names (due_after reading.payloads) reading.events (length reading.front) reading.id reading.rest at
+  pub at_is : (at ≡ length reading.front) ⊎ EndsLog (rest_of reading) at
 
 -- The bytes are those that a replica with these settings must send in reply to the payloads that the connection has
 -- taken.
