@@ -143,7 +143,7 @@ grow rest x x1 x2 y y1 y2 e1 e2 fs f1 f2 taken xs ys front esplit fsplit first f
 }
 
 ahead : (limit : ℕ) (names : Names) (due : Due) (id m : ℕ) (x : List ℕ) (es : List EventValue) (r : List ℕ) (q : Payload) (qs : List Payload) (y : List ℕ) (fs : List EventValue) (n : ℕ) (s : List ℕ)
-    → Talks limit names due id [] x es m → Talks limit names due id (q ∷ qs) y fs n → x ++ r ≡ y ++ s
+    → Talks limit names (record { due = due; id = id }) [] x es m → Talks limit names (record { due = due; id = id }) (q ∷ qs) y fs n → x ++ r ≡ y ++ s
     → Ahead limit names due (record { payloads = []; front = x; events = es; id = m; rest = r }) (record { payloads = q ∷ qs; front = y; events = fs; id = n; rest = s })
 ahead limit names due id m x es r q qs y fs n s a b h = record {
   further = record {
@@ -170,7 +170,7 @@ ahead limit names due id m x es r q qs y fs n s a b h = record {
 }
 
 compare : (limit : ℕ) (names : Names) (due : Due) (id : ℕ) (ps : List Payload) (x : List ℕ) (es : List EventValue) (m : ℕ) (r : List ℕ) (qs : List Payload) (y : List ℕ) (fs : List EventValue) (n : ℕ) (s : List ℕ)
-    → Talks limit names due id ps x es m → Talks limit names due id qs y fs n → x ++ r ≡ y ++ s
+    → Talks limit names (record { due = due; id = id }) ps x es m → Talks limit names (record { due = due; id = id }) qs y fs n → x ++ r ≡ y ++ s
     → Compared limit names due (record { payloads = ps; front = x; events = es; id = m; rest = r }) (record { payloads = qs; front = y; events = fs; id = n; rest = s })
 compare limit names due id [] x es m r [] y fs n s a b h = inl (record {
   payloads = refl;
@@ -186,8 +186,8 @@ compare limit names due id (p ∷ ps) x es m r (q ∷ qs) y fs n s a b h =
     let w = none_begins (a.1 ++ r) (b.1 ++ s) a.7.packing b.7.packing e in
     let same : q ≡ p = sym w.0 in
     let firsts : a.2 ≡ b.2 = one_answer names due p a.2 b.2 a.8 (subst (λ v. Answers names due v b.2) same b.8) in
-    let after : Talks limit names (next_due due p) (next_id due p a.4) qs b.1 b.3 n =
-    subst (λ k. Talks limit names (next_due due p) (next_id due p k) qs b.1 b.3 n) (sym w.3) (subst (λ v. Talks limit names (next_due due v) (next_id due v b.4) qs b.1 b.3 n) same b.9) in
+    let after : Talks limit names (record { due = next_due due p; id = next_id due p a.4 }) qs b.1 b.3 n =
+    subst (λ k. Talks limit names (record { due = next_due due p; id = next_id due p k }) qs b.1 b.3 n) (sym w.3) (subst (λ v. Talks limit names (record { due = next_due due v; id = next_id due v b.4 }) qs b.1 b.3 n) same b.9) in
     elim (compare limit names (next_due due p) (next_id due p a.4) ps a.1 a.3 m r qs b.1 b.3 n s a.9 after w.2) [
       | inl t ↦ inl (record {
         payloads = ap (λ v. v ∷ ps) w.0 ∙ ap (λ l. q ∷ l) t.payloads;

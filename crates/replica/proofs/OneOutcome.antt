@@ -24,7 +24,7 @@ answered_read names InDump p es fits a =
     subst (λ l. AllByRecursion IsFromBytes l) (sym a.2) (record { names = names; bytes = a.1.body; fits = body.1; is_event = a.1.is_event }, tt)
 answered_read names _ p es fits a = subst (λ l. AllByRecursion IsFromBytes l) (sym a.1) tt
 
-pub talked_read : (limit : ℕ) (names : Names) (due : Due) (id : ℕ) (ps : List Payload) (x : List ℕ) (es : List EventValue) (last : ℕ) → AllByRecursion (λ b. b < 256) x → Talks limit names due id ps x es last
+pub talked_read : (limit : ℕ) (names : Names) (due : Due) (id : ℕ) (ps : List Payload) (x : List ℕ) (es : List EventValue) (last : ℕ) → AllByRecursion (λ b. b < 256) x → Talks limit names (record { due = due; id = id }) ps x es last
     → AllByRecursion IsFromBytes es
 talked_read limit names due id [] x es last fits t = subst (λ l. AllByRecursion IsFromBytes l) (sym t.1) tt
 talked_read limit names due id (p ∷ ps) x es last fits t =

@@ -53,8 +53,8 @@ could_ask InDump p ids n h i = absurd (n tt)
 -- ---- the conversation
 module _ (limit : ℕ) (names : Names) where
   pub talks_push : (d : Due) (id : ℕ) (ps : List Payload) (x : List ℕ) (es : List EventValue) (last : ℕ) (p : Payload) (y : List ℕ) (after : ℕ) (first : List EventValue)
-      → Talks limit names d id ps x es last → IsWholePayload last limit y p after → Answers names (due_from d ps) p first
-      → Talks limit names d id (ps ++ p ∷ []) (x ++ y) (es ++ first) (next_id (due_from d ps) p after)
+      → Talks limit names (record { due = d; id = id }) ps x es last → IsWholePayload last limit y p after → Answers names (due_from d ps) p first
+      → Talks limit names (record { due = d; id = id }) (ps ++ p ∷ []) (x ++ y) (es ++ first) (next_id (due_from d ps) p after)
   talks_push d id [] x es last p y after first t w a = (
     y,
     [],
@@ -81,7 +81,7 @@ module _ (limit : ℕ) (names : Names) where
   )
 
   -- before the dump no payload carries an event
-  pub no_events : (d : Due) (id : ℕ) (ps : List Payload) (x : List ℕ) (es : List EventValue) (last : ℕ) → Talks limit names d id ps x es last → (IsInDump (due_from d ps) → ⊥) → es ≡ []
+  pub no_events : (d : Due) (id : ℕ) (ps : List Payload) (x : List ℕ) (es : List EventValue) (last : ℕ) → Talks limit names (record { due = d; id = id }) ps x es last → (IsInDump (due_from d ps) → ⊥) → es ≡ []
   no_events d id [] x es last t n = t.1
   no_events Hello id (p ∷ ps) x es last t n = t.6 ∙ ap (λ (l : List EventValue). l ++ t.3) t.8.1 ∙ no_events (next_due Hello p) (next_id Hello p t.4) ps t.1 t.3 last t.9 n
   no_events Reply id (p ∷ ps) x es last t n = t.6 ∙ ap (λ (l : List EventValue). l ++ t.3) t.8.1 ∙ no_events (next_due Reply p) (next_id Reply p t.4) ps t.1 t.3 last t.9 n
@@ -147,7 +147,7 @@ module _ (limit : ℕ) (names : Names) (b : List ℕ) (r : Reading limit names b
     rest = [];
     bytes = r.bytes ∙ sym (append-nil (r.front ++ r.rest));
     talk = record {
-      talks = subst (λ (l : List EventValue). Talks limit names Hello 0 (r.payloads ++ p ∷ []) (r.front ++ r.rest) l (next_id (due_after r.payloads) p after)) (append-nil r.events)
+      talks = subst (λ (l : List EventValue). Talks limit names (record { due = Hello; id = 0 }) (r.payloads ++ p ∷ []) (r.front ++ r.rest) l (next_id (due_after r.payloads) p after)) (append-nil r.events)
           (talks_push limit names Hello 0 r.payloads r.front r.events r.id p r.rest after [] r.talk.talks w a);
       within = all_read;
       delivers = r.talk.delivers;

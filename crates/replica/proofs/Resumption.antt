@@ -163,7 +163,7 @@ module _ (one_dump : (a b : DumpValue) (payload : List ℕ) → IsDump a payload
     abbrev events : List EventValue
     events = map (seen names) (events_of (drop j history))
 
-    talks : Talks limit names Hello 0 payloads (opening ++ c.front) events c.mid
+    talks : Talks limit names (record { due = Hello; id = 0 }) payloads (opening ++ c.front) events c.mid
     talks = talks_all limit names r.greeting r.login r.query opening (payloads_of (events_of (drop j history))) c.front events c.mid r.opens (sends.short.0, (sends.short.1.0, (sends.short.1.1.0, tt)))
         (talks_events limit names 1 (events_of (drop j history)) c.front c.mid writable
         (all_front (λ p. length p ≤ limit) (payloads_of (events_of (drop j history))) (end_payloads (is_once r.dump.flags)) sends.short.1.1.1) c.first)

@@ -83,7 +83,7 @@ are_cut id (p ∷ ps) qs x last a =
 -- ---- The conversation.
 
 pub talks_events : (limit : ℕ) (names : Names) (id : ℕ) (events : List EventValue) (x : List ℕ) (last : ℕ) → AllByRecursion IsWritable events → AllByRecursion (λ p. length p ≤ limit) (payloads_of events)
-    → ArePackings id (payloads_of events) x last → Talks limit names InDump id (payloads_of events) x (map (seen names) events) last
+    → ArePackings id (payloads_of events) x last → Talks limit names (record { due = InDump; id = id }) (payloads_of events) x (map (seen names) events) last
 talks_events limit names id [] x last writable short a = (a.0, refl, a.1)
 talks_events limit names id (e ∷ events) x last writable short a = (
   a.0,
@@ -110,12 +110,12 @@ dump_due greeting login query ps ok =
     subst (λ (b : Bool). due_from (next_due (if b then SecondReply else QueryReply) query) ps ≡ InDump) (sym (no_switch login ok)) (stays ps)
 
 pub talks_all : (limit : ℕ) (names : Names) (greeting login query : Payload) (opening : List ℕ) (ps : List Payload) (x : List ℕ) (es : List EventValue) (last : ℕ) → (o : OpensWith greeting login query opening)
-    → AllByRecursion (λ p. length p ≤ limit) (greeting ∷ login ∷ query ∷ []) → Talks limit names InDump 1 ps x es last → Talks limit names Hello 0 (greeting ∷ login ∷ query ∷ ps) (opening ++ x) es last
+    → AllByRecursion (λ p. length p ≤ limit) (greeting ∷ login ∷ query ∷ []) → Talks limit names (record { due = InDump; id = 1 }) ps x es last → Talks limit names (record { due = Hello; id = 0 }) (greeting ∷ login ∷ query ∷ ps) (opening ++ x) es last
 talks_all limit names greeting login query opening ps x es last o short t =
-    let beyond : Talks limit names QueryReply 1 (query ∷ ps) (o.third ++ x) es last =
+    let beyond : Talks limit names (record { due = QueryReply; id = 1 }) (query ∷ ps) (o.third ++ x) es last =
     (o.third, x, [], es, o.after_query, refl, refl, record { packing = o.packs_query; within = short.1.1.0 }, (o.confirms, refl), t) in
-    let reply : Talks limit names (if begins_switch login then SecondReply else QueryReply) (if begins_switch login then 4 else 1) (query ∷ ps) (o.third ++ x) es last =
-    subst (λ (b : Bool). Talks limit names (if b then SecondReply else QueryReply) (if b then 4 else 1) (query ∷ ps) (o.third ++ x) es last) (sym (no_switch login o.lets_in)) beyond in
+    let reply : Talks limit names (record { due = if begins_switch login then SecondReply else QueryReply; id = if begins_switch login then 4 else 1 }) (query ∷ ps) (o.third ++ x) es last =
+    subst (λ (b : Bool). Talks limit names (record { due = if b then SecondReply else QueryReply; id = if b then 4 else 1 }) (query ∷ ps) (o.third ++ x) es last) (sym (no_switch login o.lets_in)) beyond in
     let same : opening ++ x ≡ o.first ++ (o.second ++ (o.third ++ x)) =
     ap (λ (l : List ℕ). l ++ x) o.bytes_are ∙ append_assoc o.first (o.second ++ o.third) x ∙ ap (λ (l : List ℕ). o.first ++ l) (append_assoc o.second o.third x) in (
       o.first,
@@ -145,7 +145,7 @@ joined : (es e1 e2 fs f1 f2 others : List EventValue) → es ≡ e1 ++ e2 → fs
 joined es e1 e2 fs f1 f2 others x y first beyond = x ∙ ap (λ l. l ++ e2) first ∙ ap (λ l. f1 ++ l) beyond ∙ sym (append_assoc f1 f2 others) ∙ ap (λ l. l ++ others) (sym y)
 
 pub beginning : (limit : ℕ) (names : Names) (due : Due) (id : ℕ) (ps : List Payload) (x : List ℕ) (es : List EventValue) (m : ℕ) (r : List ℕ) (qs : List Payload) (y : List ℕ) (fs : List EventValue) (n : ℕ) (s : List ℕ)
-    → Talks limit names due id ps x es m → Talks limit names due id qs y fs n → x ++ r ≡ y ++ s → IsBlocked limit names (due_from due ps) m r → Begins fs es
+    → Talks limit names (record { due = due; id = id }) ps x es m → Talks limit names (record { due = due; id = id }) qs y fs n → x ++ r ≡ y ++ s → IsBlocked limit names (due_from due ps) m r → Begins fs es
 beginning limit names due id ps x es m r [] y fs n s a b h blocked = record { others = es; events_are = ap (λ l. l ++ es) (sym b.1) }
 beginning limit names due id [] x es m r (q ∷ qs) y fs n s a b h blocked =
     absurd (blocked q b.0 (b.1 ++ s) b.4 b.2
@@ -157,8 +157,8 @@ beginning limit names due id (p ∷ ps) x es m r (q ∷ qs) y fs n s a b h block
     let w = none_begins (a.1 ++ r) (b.1 ++ s) a.7.packing b.7.packing e in
     let same : q ≡ p = sym w.0 in
     let firsts : a.2 ≡ b.2 = one_answer names due p a.2 b.2 a.8 (subst (λ v. Answers names due v b.2) same b.8) in
-    let after : Talks limit names (next_due due p) (next_id due p a.4) qs b.1 b.3 n =
-    subst (λ k. Talks limit names (next_due due p) (next_id due p k) qs b.1 b.3 n) (sym w.3) (subst (λ v. Talks limit names (next_due due v) (next_id due v b.4) qs b.1 b.3 n) same b.9) in
+    let after : Talks limit names (record { due = next_due due p; id = next_id due p a.4 }) qs b.1 b.3 n =
+    subst (λ k. Talks limit names (record { due = next_due due p; id = next_id due p k }) qs b.1 b.3 n) (sym w.3) (subst (λ v. Talks limit names (record { due = next_due due v; id = next_id due v b.4 }) qs b.1 b.3 n) same b.9) in
     let t = beginning limit names (next_due due p) (next_id due p a.4) ps a.1 a.3 m r qs b.1 b.3 n s a.9 after w.2 blocked in
     record {
       others = t.others;

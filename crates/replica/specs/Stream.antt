@@ -68,20 +68,25 @@ Answers names SecondReply p es = IsOkPacket p × (es ≡ [])
 Answers names QueryReply p es = IsOkPacket p × (es ≡ [])
 Answers names InDump p es = (e : EventValue) × Carries names p e × (es ≡ e ∷ [])
 
--- From the expected message on, whose packing has this sequence id: x is the packings of the payloads, one after the
+-- What comes next in a conversation: the message that is expected, and the sequence id of its packing.
+pub record Expected : Type 0 where
+  pub due : Due
+  pub id : ℕ
+
+-- From the expected message on, whose packing has its sequence id: x is the packings of the payloads, one after the
 -- other, each of at most `limit` bytes and the expected message; they have these events, and the next payload's packing
 -- has the last id.
-abbrev pub Talks : ℕ → Names → Due → ℕ → List Payload → List ℕ → List EventValue → ℕ → Type 0
-Talks limit names due id [] x es last = (x ≡ []) × (es ≡ []) × (last ≡ id)
-Talks limit names due id (p ∷ ps) x es last =
+abbrev pub Talks : ℕ → Names → Expected → List Payload → List ℕ → List EventValue → ℕ → Type 0
+Talks limit names expected [] x es last = (x ≡ []) × (es ≡ []) × (last ≡ expected.id)
+Talks limit names expected (p ∷ ps) x es last =
     (y : List ℕ) × (z : List ℕ) × (first : List EventValue) × (others : List EventValue) × (after : ℕ)
-    × (x ≡ y ++ z) × (es ≡ first ++ others) × IsWholePayload id limit y p after × Answers names due p first
-    × Talks limit names (next_due due p) (next_id due p after) ps z others last
+    × (x ≡ y ++ z) × (es ≡ first ++ others) × IsWholePayload expected.id limit y p after × Answers names expected.due p first
+    × Talks limit names (record { due = next_due expected.due p; id = next_id expected.due p after }) ps z others last
 
 -- x is a prefix of a conversation, of fewer than 2 ^ 64 bytes, with these payloads. They have these events, which are
 -- lawful and have these transactions.
 pub record Conversation (limit : ℕ) (names : Names) (ps : List Payload) (x : List ℕ) (es : List EventValue) (ds : List DeliveryValue) (id : ℕ) : Type 0 where
-  pub talks : Talks limit names Hello 0 ps x es id
+  pub talks : Talks limit names (record { due = Hello; id = 0 }) ps x es id
   pub within : length x < 2 ^ 64
   pub delivers : AreDeliveries es ds
 
