@@ -68,8 +68,7 @@ in_dump names _ p es h a = absurd h
 
 -- ---- Two readings of the same bytes.
 
--- what was read of bytes, and what remains: the payloads, the bytes that pack them, their events, the sequence id of the next
--- packing, and the remaining bytes
+-- what was read of bytes: payloads, the bytes that pack them, their events; and what is left: the next sequence id, the bytes
 pub record Part : Type 0 where
   pub payloads : List Payload
   pub front : List ℕ
@@ -80,11 +79,11 @@ pub record Part : Type 0 where
 abbrev pub part_of : {limit : ℕ} {names : Names} {b : List ℕ} → Reading limit names b → Part
 part_of r = record { payloads = r.payloads; front = r.front; events = r.events; id = r.id; rest = r.rest }
 
--- what follows such a part that begins where this message is expected
+-- what is left after such a part, if it begins where this message is expected
 abbrev pub after_part : ℕ → Names → Due → Part → Rest
 after_part limit names due x = record { limit = limit; names = names; due = due_from due x.payloads; events = x.events; taken = length x.front; id = x.id; bytes = x.rest }
 
--- Where these bytes remain, the other reading, of the bytes y with the events fs, goes on with a payload.
+-- where these bytes are left, the other reading, of the bytes y with the events fs, goes on with a payload
 pub record Further (rest : Rest) (y : List ℕ) (fs : List EventValue) : Type 0 where
   pub payload : Payload
   pub packing : List ℕ

@@ -39,8 +39,7 @@ IsWrong id limit rest wire.TooLarge = IsTooLarge id limit rest
 IsWrong id limit rest wire.Memory = ⊥
 IsWrong id limit rest wire.Ended = ⊥
 
--- What follows the first bytes of a connection: after so many bytes of a conversation and these events, where this message is
--- expected and its packing has this sequence id, the remaining bytes; under this limit on a payload, for these tables.
+-- What is left of a connection after `taken` bytes with these events: the message that is expected, its sequence id, the bytes.
 pub record Rest : Type 0 where
   pub limit : ℕ
   pub names : Names
