@@ -200,16 +200,16 @@ module _ {S : Type 0} (g : Ghosts S) where
       all_sent = inl (may_owe end.reason gave);
     }
 
-    module _ (after : Session) (left' written' : Option (List ℕ)) (y z : List ℕ) (keeps : Keeps stream.left' left') (appends : Appends stream.written' written' y) (hands : HandsOut session after (y ++ z)) where
+    module _ (after : Session) (left' written' : Option (List ℕ)) (y z : List ℕ) (keeps : Keeps stream.left_after left') (appends : Appends stream.written_after written' y) (hands : HandsOut session after (y ++ z)) where
       -- the stream afterwards
       abbrev stream' : Exchange
-      stream' = record stream { left' = left'; written' = written' }
+      stream' = record stream { left_after = left'; written_after = written' }
 
       writes' : Appends stream.written written' (f.sent ++ y)
-      writes' = Appends-trans stream.written stream.written' written' f.sent y f.writes appends
+      writes' = Appends-trans stream.written stream.written_after written' f.sent y f.writes appends
 
       reads' : Consumes stream.left left' f.read
-      reads' = Consumes-kept stream.left stream.left' left' f.read f.reads keeps
+      reads' = Consumes-kept stream.left stream.left_after left' f.read f.reads keeps
 
       is_due' : SentFor session.config before.following old.executed f.read end.at ((f.sent ++ y) ++ z)
       is_due' =
@@ -305,7 +305,7 @@ module _ {S : Type 0} (g : Ghosts S) where
   -- nothing has been read or sent
   pub following-begins : ((h : Held S) (db : Trees) → IsTrue (state g h).is_open → (state g h).may_leave db → db ≡ (state g h).committed.trees)
       → (session : Session) (store : Store S g) (was : Bool) (content : Content) (left written : Option (List ℕ)) → session.ended ≡ None → HoldsAs g was content store → Stands session store.following (from_start was content) was content
-      → IsFollowing g session store store was content (record { left = left; left' = left; written = written; written' = written })
+      → IsFollowing g session store store was content (record { left = left; left_after = left; written = written; written_after = written })
   following-begins settled session store was content left written going holds stands =
       let s = begins g settled session store was content holds stands in
       record {
@@ -328,13 +328,13 @@ module _ {S : Type 0} (g : Ghosts S) where
   -- some bytes were read
   pub following-read : (session after : Session) (before store new : Store S g) (was : Bool) (old : Content) (stream : Exchange) (left' written' : Option (List ℕ)) (x : List ℕ)
       → (f : IsFollowing g session before store was old stream) → store.following ≡ before.following → session.ended ≡ None → after.config ≡ session.config → length x ≤ piece_length
-      → Consumes stream.left' left' x → Keeps stream.written' written'
-      → StandsOver g after new (database g before).now.schema (record { was = was; old = old; read = f.read ++ x; sent = f.sent }) → IsFollowing g after before new was old (record stream { left' = left'; written' = written' })
+      → Consumes stream.left_after left' x → Keeps stream.written_after written'
+      → StandsOver g after new (database g before).now.schema (record { was = was; old = old; read = f.read ++ x; sent = f.sent }) → IsFollowing g after before new was old (record stream { left_after = left'; written_after = written' })
   following-read session after before store new was old stream left' written' x f names going config piece consumes keeps stands = record {
     read = f.read ++ x;
     sent = f.sent;
-    reads = Consumes-trans stream.left stream.left' left' f.read x f.reads consumes;
-    writes = Appends-kept stream.written stream.written' written' f.sent f.writes keeps;
+    reads = Consumes-trans stream.left stream.left_after left' f.read x f.reads consumes;
+    writes = Appends-kept stream.written stream.written_after written' f.sent f.writes keeps;
     stands = stands;
     last = subst (λ (c : Settings). EndsInLast c.limit piece_length before.following was old [] (f.read ++ x)) (sym config) (record {
       front = f.read;

@@ -28,7 +28,7 @@ module _ {S : Type 0} (g : Ghosts S) where
   -- these bytes were taken from the reader, and this is the position of the session and its store
   pub record IsTaking (limit : ℕ) (taking : Taking) (entry : Store S g) (session : Session) (store : Store S g) : Type 0 where
     pub read : List ℕ
-    pub consumes : Consumes taking.left taking.left' read
+    pub consumes : Consumes taking.left taking.left_after read
     pub limit_is : session.config.limit ≡ limit
     pub keeps : KeepsStore g entry store
     pub stands : HasCleanDisk (state g store.conn) → (was : Bool) (old : Content) → HoldsAs g was old entry → StandsOver g session store (state g entry.conn).now.schema (having_read was old (taking.first ++ read))
@@ -36,12 +36,12 @@ module _ {S : Type 0} (g : Ghosts S) where
 
   -- more bytes were taken, and the session was fed with them
   pub taking_more : (limit : ℕ) (taking : Taking) (entry : Store S g) (session : Session) (store : Store S g) (after : Session) (new : Store S g) (left'' : Option (List ℕ)) (piece : List ℕ)
-      → IsTaking limit taking entry session store → session.ended ≡ None → length piece ≤ taking.most → Consumes taking.left' left'' piece → after.config ≡ session.config → KeepsStore g store new
+      → IsTaking limit taking entry session store → session.ended ≡ None → length piece ≤ taking.most → Consumes taking.left_after left'' piece → after.config ≡ session.config → KeepsStore g store new
       → (HasCleanDisk (state g new.conn) → (schema : Schema) (pos : Position) → StandsOver g session store schema pos → StandsOver g after new schema (reads_on pos piece))
-      → IsTaking limit (record taking { left' = left'' }) entry after new
+      → IsTaking limit (record taking { left_after = left'' }) entry after new
   taking_more limit taking entry session store after new left'' piece t going within consumes config keeps leads = record {
     read = t.read ++ piece;
-    consumes = Consumes-trans taking.left taking.left' left'' t.read piece t.consumes consumes;
+    consumes = Consumes-trans taking.left taking.left_after left'' t.read piece t.consumes consumes;
     limit_is = ap (λ s. s.limit) config ∙ t.limit_is;
     keeps = store_then g t.keeps keeps;
     stands = λ h was old holds. subst (λ (l : List ℕ). StandsOver g after new (state g entry.conn).now.schema (having_read was old l)) (append_assoc taking.first t.read piece)
@@ -62,11 +62,11 @@ module _ {S : Type 0} (g : Ghosts S) where
 
   -- what has been read so far
   pub taken : (limit : ℕ) (taking : Taking) (entry : Store S g) (session : Session) (store : Store S g) (left'' : Option (List ℕ)) (was : Bool) (old : Content) (end : Ended)
-      → IsTaking limit taking entry session store → Keeps taking.left' left'' → end ≡ end_of session → HasCleanDisk (state g store.conn) → HoldsAs g was old entry
-      → HasReadOf g limit entry store was old (record taking { left' = left'' }) end
+      → IsTaking limit taking entry session store → Keeps taking.left_after left'' → end ≡ end_of session → HasCleanDisk (state g store.conn) → HoldsAs g was old entry
+      → HasReadOf g limit entry store was old (record taking { left_after = left'' }) end
   taken limit taking entry session store left'' was old end t keeps end_is clean holds = record {
     read = t.read;
-    consumes = Consumes-kept taking.left taking.left' left'' t.read t.consumes keeps;
+    consumes = Consumes-kept taking.left taking.left_after left'' t.read t.consumes keeps;
     has_read = read_all g session entry store limit (having_read was old (taking.first ++ t.read)) end t.limit_is t.keeps.following end_is (t.stands clean was old holds);
     last = t.last clean was old holds;
   }

@@ -11,7 +11,7 @@ use Rattle.store.specs.Open.{nothing}
 use Rattle.replica.proofs.Push.{applies_push}
 use Rattle.scripted_source.specs.Source.{ArePackings, due, payloads_of, end_payloads, eof_payload, sent_payloads, is_once}
 use Rattle.replica.specs.End.{Rest, rest_of}
-use Rattle.replica.specs.Resume.{Reaches, Exchange, Resumes, end_reason, Leads}
+use Rattle.replica.specs.Resume.{Reaches, Dialogue, Resumes, end_reason, Leads}
 use Rattle.replica.proofs.ScriptEvents.{seen, delivers}
 use Rattle.replica.proofs.Bytes.{all_front, all_back}
 use Rattle.replica.proofs.ScriptPayloads.{Cut, are_cut, events_writable, talks_events, talks_all, dump_due, IsBlocked, beginning, ends_there, are_read}
@@ -114,9 +114,9 @@ ends_so rest ds false front all last old new in_dump taken is small a short = (
 begun_by : (all first others mine : List DeliveryValue) → all ≡ first ++ others → first ≡ mine → all ≡ mine ++ others
 begun_by all first others mine is same = is ∙ ap (λ l. l ++ others) same
 
-module _ (one_dump : (a b : DumpValue) (payload : List ℕ) → IsDump a payload → IsDump b payload → a ≡ b) (limit : ℕ) (names : Names) (history : List ScriptValue) (j : ℕ) (held last : Content) (exchange : Exchange)
-    (r : Resumes limit names history j held last exchange) where
-  open exchange use {request, opening, answer}
+module _ (one_dump : (a b : DumpValue) (payload : List ℕ) → IsDump a payload → IsDump b payload → a ≡ b) (limit : ℕ) (names : Names) (history : List ScriptValue) (j : ℕ) (held last : Content) (dialogue : Dialogue)
+    (r : Resumes limit names history j held last dialogue) where
+  open dialogue use {request, opening, answer}
 
   left : Left names history j held last
   left = left_of names history j held last (no_more names history j held r.reached) r.reached r.all_applied

@@ -57,13 +57,13 @@ piece_length = 65536
 -- What a stream has left to read, and what was written to it, before and after.
 pub record Exchange : Type 0 where
   pub left : Option (List ℕ)
-  pub left' : Option (List ℕ)
+  pub left_after : Option (List ℕ)
   pub written : Option (List ℕ)
-  pub written' : Option (List ℕ)
+  pub written_after : Option (List ℕ)
 
 -- of a stream, by what it says that it has left to read and that was written to it
 abbrev pub exchange : {T : Type 0} → (T → Option (List ℕ)) → (T → Option (List ℕ)) → T → T → Exchange
-exchange left written before after = record { left = left before; left' = left after; written = written before; written' = written after }
+exchange left written before after = record { left = left before; left_after = left after; written = written before; written_after = written after }
 
 module _ {S : Type 0} (g : Ghosts S) where
   -- A store that held this content, and had failed or not, has followed a stream to this end.
@@ -72,14 +72,14 @@ module _ {S : Type 0} (g : Ghosts S) where
     pub read : List ℕ
     pub sent : List ℕ
     pub pending : List ℕ
-    pub reads : Consumes stream.left stream.left' read
-    pub writes : Appends stream.written stream.written' sent
+    pub reads : Consumes stream.left stream.left_after read
+    pub writes : Appends stream.written stream.written_after sent
     pub has_read : HasRead g settings.limit before after was old read end
     pub last : EndsInLast settings.limit piece_length (names_of g before) was old [] read
     pub in_full : IsOfStream end.reason → EndsInFull settings.limit (names_of g before) was old read has_read.new end
     -- a read fails only if the bytes read do not end the connection
     pub unended : end.reason ≡ ReadFailed → Conn settings.limit (names_of g before) was old read has_read.new (reported_as EndOfInput end)
-    pub all_read : end.reason ≡ EndOfInput → IsAtEnd stream.left'
+    pub all_read : end.reason ≡ EndOfInput → IsAtEnd stream.left_after
     pub is_due : SentFor settings (names_of g before) old.executed read end.at (sent ++ pending)
     pub all_sent : MaySendLess end.reason ⊎ (pending ≡ [])
 
@@ -88,8 +88,8 @@ module _ {S : Type 0} (g : Ghosts S) where
   pub record IsFollowing (session : Session) (before store : Store S g) (was : Bool) (old : Content) (stream : Exchange) : Type 0 where
     pub read : List ℕ
     pub sent : List ℕ
-    pub reads : Consumes stream.left stream.left' read
-    pub writes : Appends stream.written stream.written' sent
+    pub reads : Consumes stream.left stream.left_after read
+    pub writes : Appends stream.written stream.written_after sent
     pub stands : StandsOver g session store (database g before).now.schema (record { was = was; old = old; read = read; sent = sent })
     pub last : EndsInLast session.config.limit piece_length (names_of g before) was old [] read
 

@@ -20,7 +20,7 @@ pub record Taking : Type 0 where
   pub first : List ℕ
   pub most : ℕ
   pub left : Option (List ℕ)
-  pub left' : Option (List ℕ)
+  pub left_after : Option (List ℕ)
 
 module _ {S : Type 0} (g : Ghosts S) where
   -- Whatever a crash may leave of the store's database stands, under the schema, for one of these contents.
@@ -68,7 +68,7 @@ module _ {S : Type 0} (g : Ghosts S) where
   -- taken from the reader.
   pub record HasReadOf (limit : ℕ) (before after : Store S g) (was : Bool) (old : Content) (taking : Taking) (end : Ended) : Type 0 where
     pub read : List ℕ
-    pub consumes : Consumes taking.left taking.left' read
+    pub consumes : Consumes taking.left taking.left_after read
     pub has_read : HasRead limit before after was old (taking.first ++ read) end
     -- none were taken after the piece in which the connection ended
     pub last : (read ≡ []) ⊎ EndsInLast limit taking.most (names_of g before) was old taking.first read

@@ -23,7 +23,7 @@ use Rattle.replica.specs.declared.end.Ended.{Ended}
 use Rattle.replica.specs.declared.followed_file.FollowedFile.{FollowedFile}
 use Rattle.replica.specs.Settings.{Settings}
 use Rattle.replica.specs.Follow.{IsInFull}
-use Rattle.replica.specs.Resume.{Reaches, Exchange, Resumes}
+use Rattle.replica.specs.Resume.{Reaches, Dialogue, Resumes}
 use Rattle.replica.specs.declared.file.Unopened.{Unopened}
 use Rattle.replica.specs.File.{FilesHold, MayFindLeft, IsTurnedAway}
 use Rattle.replica.specs.FollowFile.{StreamView, FollowsFile}
@@ -32,13 +32,13 @@ use Rattle.replica.specs.FollowFile.{StreamView, FollowsFile}
 -- to read.
 pub record IsSent (limit : ℕ) (names : Names) (history : List ScriptValue) (held : Content) (left : Option (List ℕ)) : Type 0 where
   pub last : Content
-  pub exchange : Exchange
-  pub asked : (j : ℕ) → Reaches names history j held → Resumes limit names history j held last exchange
-  pub are_bytes : AllByRecursion (λ b. b < 256) (exchange.opening ++ exchange.answer)
-  pub fewer : length (exchange.opening ++ exchange.answer) < 2 ^ 64
+  pub dialogue : Dialogue
+  pub asked : (j : ℕ) → Reaches names history j held → Resumes limit names history j held last dialogue
+  pub are_bytes : AllByRecursion (λ b. b < 256) (dialogue.opening ++ dialogue.answer)
+  pub fewer : length (dialogue.opening ++ dialogue.answer) < 2 ^ 64
   pub part : List ℕ
   pub more : List ℕ
-  pub cut : exchange.opening ++ exchange.answer ≡ part ++ more
+  pub cut : dialogue.opening ++ dialogue.answer ≡ part ++ more
   pub left_is : left ≡ Some part
 
 -- What the next call may find of the files of this one. Of files that were closed, what they hold, or what a crash leaves

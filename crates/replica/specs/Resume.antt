@@ -37,24 +37,24 @@ Reaches names history count content = AppliesAll names nothing (transactions nam
 -- ---- The law.
 
 -- What a replica asks, and what the source sends before the dump and in it.
-pub record Exchange : Type 0 where
+pub record Dialogue : Type 0 where
   pub request : Payload
   pub opening : List ℕ
   pub answer : List ℕ
 
 -- A source with this history is asked by a replica that holds the content after its first j transactions, all of which
--- can be applied, and whose filter is this one, and that takes payloads up to this limit. This is what they exchange.
-pub record Resumes (limit : ℕ) (names : Names) (history : List ScriptValue) (j : ℕ) (held last : Content) (exchange : Exchange) : Type 0 where
+-- can be applied, and whose filter is this one, and that takes payloads up to this limit. This is what they say to each other.
+pub record Resumes (limit : ℕ) (names : Names) (history : List ScriptValue) (j : ℕ) (held last : Content) (dialogue : Dialogue) : Type 0 where
   pub reached : Reaches names history j held
   pub all_applied : Reaches names history (length history) last
   pub dump : DumpValue
-  pub asks : Asks exchange.request dump held.executed
-  pub short : length exchange.request ≤ largest_payload
+  pub asks : Asks dialogue.request dump held.executed
+  pub short : length dialogue.request ≤ largest_payload
   pub greeting : Payload
   pub login : Payload
   pub query : Payload
-  pub opens : OpensWith greeting login query exchange.opening
-  pub answers : IsAnswer history exchange.request exchange.answer
+  pub opens : OpensWith greeting login query dialogue.opening
+  pub answers : IsAnswer history dialogue.request dialogue.answer
   pub admits : AllByRecursion (λ p. length p ≤ limit) (greeting ∷ login ∷ query ∷ sent_payloads (is_once dump.flags) (due held.executed history))
 
 -- why the connection ends
@@ -77,13 +77,13 @@ pub record Leads (limit : ℕ) (names : Names) (held last : Content) (bytes : Li
 -- connection ends in any way, the replica is stopped, and what is left is this content.
 pub record Restarts (limit : ℕ) (names : Names) (history : List ScriptValue) (held left : Content) : Type 0 where
   pub last : Content
-  pub exchange : Exchange
-  pub asked : (j : ℕ) → Reaches names history j held → Resumes limit names history j held last exchange
-  pub are_bytes : AllByRecursion (λ b. b < 256) exchange.answer
-  pub fewer : length (exchange.opening ++ exchange.answer) < 2 ^ 64
+  pub dialogue : Dialogue
+  pub asked : (j : ℕ) → Reaches names history j held → Resumes limit names history j held last dialogue
+  pub are_bytes : AllByRecursion (λ b. b < 256) dialogue.answer
+  pub fewer : length (dialogue.opening ++ dialogue.answer) < 2 ^ 64
   pub part : List ℕ
   pub more : List ℕ
-  pub cut : exchange.opening ++ exchange.answer ≡ part ++ more
+  pub cut : dialogue.opening ++ dialogue.answer ≡ part ++ more
   pub was : Bool
   pub new : Content
   pub end : Ended

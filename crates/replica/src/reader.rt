@@ -59,7 +59,7 @@ pub fn read_stream<R: Read, S: Alter, W: Observer>(
           first = first.now;
           most = length piece.old;
           left = R.remaining reader.old;
-          left' = R.remaining reader.new;
+          left_after = R.remaining reader.new;
         }) end) }
     // If the input has ended, nothing is left unread.
     ensures all { IfOk result (λ end. HasCleanDisk (database S.Store store.new)
@@ -73,7 +73,7 @@ pub fn read_stream<R: Read, S: Alter, W: Observer>(
           first = first.now;
           most = length piece.old;
           left = R.remaining reader.old;
-          left' = R.remaining reader.new;
+          left_after = R.remaining reader.new;
         }) end) }
     // The connection is halted only if the observer has stopped.
     ensures may_end { IfOk result (λ end. MayEnd end.reason (W.account observer.new)) }
