@@ -17,6 +17,7 @@ use Rattle.replica.specs.Capture.{Reads}
 use Rattle.replica.specs.File.{LeavesContent, IsOpenedIn, IsCleanlyClosed, WasClosed, ClosesAs}
 use Rattle.replica.specs.NotedFile.{IsNotedOfFiles, HaveReached}
 use Rattle.replica.specs.Replay.{LeadsTo, MayLeave}
+use Rattle.replica.specs.Conn.{StoreState}
 use Rattle.replica.specs.FollowFile.{StreamView, Connects, MayHold, FollowsFile}
 use Rattle.replica.proofs.CaptureList.{reads_weaker}
 use Rattle.replica.proofs.WaitSets.{has_reached}
@@ -118,25 +119,25 @@ module _ {D : Type 0} (g : Ghosts D) (names : Names) (old : Content) (opened aft
 
   pub followed_into : (only : Names) {T E : Type 0} (known : StreamView T) (gives : Ids → Result T E → Type 0) (settings : Settings) (connection : Result (Ended × Counted T) E) (closed : Result (Files D) (Error × FileStore D g))
       → after.following ≡ opened.following → (HasCleanDisk (database over_files after) → Holds over_files opened old × (opened.following ≡ names)) → LeavesContent only names old (database over_files opened)
-      → (HasCleanDisk (database over_files after) → (was : Bool) (content : Content) → HoldsAs over_files was content opened → Connects over_files known gives settings opened after was content connection)
+      → (HasCleanDisk (database over_files after) → (held : StoreState) → HoldsAs over_files held.broken held.content opened → Connects over_files known gives settings opened after held connection)
       → IfOk closed (λ files. AreClean g files.log files.db → IsCopied after.conn files)
       → IfErr closed (λ e. IsClosed after.conn e.1 × (IsClean (view e.1) → FailsToClose after.conn e.1 e.0))
       → FollowsFile known gives settings only names old (record { connection = connection; closed = closed })
   followed_into only known gives settings (Ok (end, counted)) (Ok files) same opens left_there connects copied failed = λ honest.
       let copy = copied honest in
       let o = opens copy.was_clean in
-      let f = connects copy.was_clean false old o.0 in
+      let f = connects copy.was_clean (record { broken = false; content = old }) o.0 in
       record { before = opened; after = after; holds = o.0; following = o.1; over = f; comes = closed_with g names after (same ∙ o.1) f.follows.has_read.is f.follows.has_read.new files copy f.follows.has_read.holds }
   followed_into only known gives settings (Err cause) (Ok files) same opens left_there connects copied failed = λ honest.
       let copy = copied honest in
       let o = opens copy.was_clean in
-      let f = connects copy.was_clean false old o.0 in
+      let f = connects copy.was_clean (record { broken = false; content = old }) o.0 in
       (f.0, closed_with g names after (same ∙ o.1) false old files copy (subst (λ (s : Store (FileStore D g) over_files). Holds over_files s old) (sym f.1) o.0))
   followed_into only known gives settings (Ok (end, counted)) (Err e) same opens left_there connects copied failed = λ honest.
       let quiet = failed.0.quiet in
       let clean : HasCleanDisk (database over_files after) = omega (arith, quiet.clean, honest) in
       let o = opens clean in
-      let f = connects clean false old o.0 in
+      let f = connects clean (record { broken = false; content = old }) o.0 in
       let r = f.follows.has_read in
       record {
         before = opened;
@@ -150,7 +151,7 @@ module _ {D : Type 0} (g : Ghosts D) (names : Names) (old : Content) (opened aft
   followed_into only known gives settings (Err cause) (Err e) same opens left_there connects copied failed = λ honest.
       let quiet = failed.0.quiet in
       let clean : HasCleanDisk (database over_files after) = omega (arith, quiet.clean, honest) in
-      let f = connects clean false old (opens clean).0 in
+      let f = connects clean (record { broken = false; content = old }) (opens clean).0 in
       (f.0, λ trees may. left_there (subst (λ (s : Store (FileStore D g) over_files). HasCleanDisk (database over_files s)) f.1 clean) trees (subst (λ (s : Store (FileStore D g) over_files). (database over_files s).may_leave trees) f.1 (quiet.outcomes trees may)))
 
   -- a store that stayed as it was opened

@@ -52,9 +52,9 @@ module _ (one_dump : (a b : DumpValue) (payload : List ℕ) → IsDump a payload
   restart limit held given last read new content end s consumes conn leaves =
       let r = read_of given last s.part read s.left_is consumes in record {
         last = s.last;
-        exchange = s.exchange;
+        dialogue = s.dialogue;
         asked = s.asked;
-        are_bytes = all_back (λ b. b < 256) s.exchange.opening s.exchange.answer s.are_bytes;
+        are_bytes = all_back (λ b. b < 256) s.dialogue.opening s.dialogue.answer s.are_bytes;
         fewer = s.fewer;
         part = read;
         more = r.0 ++ s.more;
@@ -117,12 +117,12 @@ module _ (one_dump : (a b : DumpValue) (payload : List ℕ) → IsDump a payload
   leads_to_all : (limit j : ℕ) (held : Content) (given last : Option (List ℕ)) (read : List ℕ) (new : Content) (end : Ended) → Reaches names history j held → (s : IsSent limit names history held given) → s.more ≡ [] → last ≡ Some []
       → Consumes given last read → IsInFull end.reason → Conn limit names false held read new end → Reaches names history (length history) new
   leads_to_all limit j held given last read new end reached s none nothing consumes in_full conn =
-      let all : read ≡ s.exchange.opening ++ s.exchange.answer = all_read given last read s.part s.more (s.exchange.opening ++ s.exchange.answer) s.left_is nothing consumes s.cut none in
+      let all : read ≡ s.dialogue.opening ++ s.dialogue.answer = all_read given last read s.part s.more (s.dialogue.opening ++ s.dialogue.answer) s.left_is nothing consumes s.cut none in
       let r = s.asked j reached in
-      let l = leads one_dump limit names history j held s.last s.exchange r s.fewer in
-      let whole : Conn limit names false held (s.exchange.opening ++ s.exchange.answer) new end = subst (λ b. Conn limit names false held b new end) all conn in
+      let l = leads one_dump limit names history j held s.last s.dialogue r s.fewer in
+      let whole : Conn limit names false held (s.dialogue.opening ++ s.dialogue.answer) new end = subst (λ b. Conn limit names false held b new end) all conn in
       let full : IsInFull l.end.reason = subst IsInFull (sym l.reason_is) (ends_in_full (is_once r.dump.flags)) in
-      let same : new ≡ s.last = one_content limit names (s.exchange.opening ++ s.exchange.answer) s.are_bytes false false held new s.last end l.end in_full full whole l.conn in
+      let same : new ≡ s.last = one_content limit names (s.dialogue.opening ++ s.dialogue.answer) s.are_bytes false false held new s.last end l.end in_full full whole l.conn in
       subst (λ c. Reaches names history (length history) c) (sym same) r.all_applied
 
   not_one_more : (limit : ℕ) (held : Content) (read : List ℕ) (new content : Content) (end : Ended) → IsInFull end.reason → IsLeftOfOne limit names held read new end content → content ≡ new

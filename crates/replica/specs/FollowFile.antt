@@ -19,6 +19,7 @@ use Rattle.replica.specs.declared.end.Reason.TheVariants.{ReadFailed, WriteFaile
 use Rattle.replica.specs.declared.end.Ended.{Ended}
 use Rattle.replica.specs.declared.followed_file.FollowedFile.{FollowedFile}
 use Rattle.replica.specs.Settings.{Settings}
+use Rattle.replica.specs.Conn.{StoreState}
 use Rattle.replica.specs.Crash as crash
 use Rattle.replica.specs.File.{AreClosedWith}
 use Rattle.replica.specs.Failing.{HaveFailed}
@@ -38,17 +39,17 @@ pub record CountsFailures {T : Type 0} (end : Ended) (stream : Counted T) : Type
 
 module _ {S : Type 0} (g : Ghosts S) {T E : Type 0} (known : StreamView T) (gives : Ids → Result T E → Type 0) (settings : Settings) where
   -- A store that held this content, and had failed or not, has followed a source over a stream that was given for its executed set.
-  pub record FollowsOver (before after : Store S g) (was : Bool) (old : Content) (end : Ended) (last : T) : Type 0 where
+  pub record FollowsOver (before after : Store S g) (held : StoreState) (done : Ended × Counted T) : Type 0 where
     pub stream : T
-    pub given : gives old.executed (Ok stream)
-    pub follows : Follows g settings before after was old (exchange known.left known.written stream last) end
+    pub given : gives held.content.executed (Ok stream)
+    pub follows : Follows g settings before after held.broken held.content (exchange known.left known.written stream done.1.stream) done.0
     -- the failures that the stream reports are the one in the end, or none
-    pub reported : HaveFailed (known.failures stream) (known.failures last) (failed_reads_of end.reason) (failed_writes_of end.reason)
+    pub reported : HaveFailed (known.failures stream) (known.failures done.1.stream) (failed_reads_of done.0.reason) (failed_writes_of done.0.reason)
 
   -- The source was followed over the stream that was given for the executed set; or none was, and the store is as before.
-  abbrev pub Connects : Store S g → Store S g → Bool → Content → Result (Ended × Counted T) E → Type 0
-  Connects before after was old (Ok (end, counted)) = FollowsOver before after was old end counted.stream
-  Connects before after was old (Err cause) = gives old.executed (Err cause) × (after ≡ before)
+  abbrev pub Connects : Store S g → Store S g → StoreState → Result (Ended × Counted T) E → Type 0
+  Connects before after held (Ok done) = FollowsOver before after held done
+  Connects before after held (Err cause) = gives held.content.executed (Err cause) × (after ≡ before)
 
 module _ {D : Type 0} (g : Disk D) {T E : Type 0} (known : StreamView T) (gives : Ids → Result T E → Type 0) (settings : Settings) (names : Names) (old : Content) where
   -- A store with this content and these tables has followed a source over a stream that was given for its executed set, and
@@ -58,7 +59,7 @@ module _ {D : Type 0} (g : Disk D) {T E : Type 0} (known : StreamView T) (gives 
     pub after : Store (FileStore D g) over_files
     pub holds : Holds over_files before old
     pub following : names_of over_files before ≡ names
-    pub over : FollowsOver over_files known gives settings before after false old done.0 done.1.stream
+    pub over : FollowsOver over_files known gives settings before after (record { broken = false; content = old }) done
     pub comes : P over.follows.read over.follows.has_read.new done.0
 
   -- The source was followed over the stream that was given for the executed set; or none was, and this holds of the content

@@ -1,6 +1,6 @@
 //! Following a source into a database file.
 
-ghost use Rattle.std.specs.Prelude.{◌≡◌, ◌<◌, [], Bool, true, Some, IfOk, IfErr, IsErr};
+ghost use Rattle.std.specs.Prelude.{◌≡◌, ◌<◌, [], true, Some, IfOk, IfErr, IsErr};
 ghost use Rattle.sqlite_wal.specs.Files.{image_at};
 ghost use Rattle.sqlite.specs.State.{HasCleanDisk};
 ghost use Rattle.gtid.specs.Identifier.{Ids};
@@ -12,6 +12,7 @@ ghost use Rattle.replica.specs.NotedFile.{IsNotedOfFiles, HaveReached};
 ghost use Rattle.replica.specs.File.{FilesHold, IsTurnedAway, ClosesAs, KeepsContent};
 ghost use Rattle.replica.specs.declared.end.Reason.TheVariants.{Until};
 ghost use Rattle.replica.specs.Noted.{IsAsked};
+ghost use Rattle.replica.specs.Conn.{StoreState};
 ghost use Rattle.replica.specs.FollowFile.{Connects, FollowsFile, CountsFailures};
 ghost use Rattle.replica.specs.Keeps.{KeepsSinceOpening};
 
@@ -51,10 +52,10 @@ fn connect_and_follow<
     connect: C,
     observer: &mut W,
 ) -> Result<(Ended, Counted<T>), E>
-    ensures connects { HasCleanDisk (database S.Store store.new) → (was : Bool) (old : Content)
-        → HoldsAs S.Store was old store.old → Connects S.Store
+    ensures connects { HasCleanDisk (database S.Store store.new) → (held : StoreState)
+        → HoldsAs S.Store held.broken held.content store.old → Connects S.Store
         (record { left = T.Read.remaining; written = T.Write.contents; failures = T.failures })
-        (C.gives connect) config store.old store.new was old result }
+        (C.gives connect) config store.old store.new held result }
     ensures counts { IfOk result (λ done. CountsFailures done.0 done.1) }
     ensures asked { IfOk result (λ done. IsAsked done.0.reason (W.account observer.new)) }
     ensures keeps { KeepsSinceOpening S.Store store.old store.new (W.account observer.old)

@@ -3,18 +3,18 @@ use Rattle.replica.proofs.Keeps.{keeps_noticed, keeps_then, since_opened, since_
 use Rattle.replica.proofs.followed_file.connect_and_follow.Goals as goal
 
 pub returns-in-Ok-clause-connects : goal.returns-in-Ok-clause-connects
-returns-in-Ok-clause-connects g c clean was old holds =
+returns-in-Ok-clause-connects g c clean held holds =
     let followed = rw c.new-counted.ensures at c.follow_observed-end.ensures in
     record {
       stream = c.in-Ok.stream;
-      given = subst (λ (ids : Ids). g.C.Connect.gives c.args.connect ids (Ok c.in-Ok.stream)) (c.executed-executed.ensures.value was old holds) c.in-Ok.ensures;
-      follows = followed.follows clean was old holds;
+      given = subst (λ (ids : Ids). g.C.Connect.gives c.args.connect ids (Ok c.in-Ok.stream)) (c.executed-executed.ensures.value held.broken held.content holds) c.in-Ok.ensures;
+      follows = followed.follows clean held.broken held.content holds;
       reported = followed.reported;
     }
 
 pub returns-in-Err-clause-connects : goal.returns-in-Err-clause-connects
-returns-in-Err-clause-connects g c clean was old holds =
-    (subst (λ (ids : Ids). g.C.Connect.gives c.args.connect ids (Err c.in-Err.cause)) (c.executed-executed.ensures.value was old holds) c.in-Err.ensures, refl)
+returns-in-Err-clause-connects g c clean held holds =
+    (subst (λ (ids : Ids). g.C.Connect.gives c.args.connect ids (Err c.in-Err.cause)) (c.executed-executed.ensures.value held.broken held.content holds) c.in-Err.ensures, refl)
 
 pub returns-in-Ok-clause-keeps : goal.returns-in-Ok-clause-keeps
 returns-in-Ok-clause-keeps g c =
