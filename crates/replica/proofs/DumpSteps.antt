@@ -8,7 +8,7 @@ use Rattle.replica.specs.End.{rest_of}
 use Rattle.replica.specs.Conn.{NextEnds}
 use Rattle.replica.specs.Sent.{Sent}
 use Rattle.replica.specs.Standing.{Parts, Position, parts_of, sends_on, Stands, offset_of, MovesOn}
-use Rattle.replica.specs.Event.{GoesFurther, EndsOne, IsAsBefore, EndsSo}
+use Rattle.replica.specs.Event.{so_far, GoesFurther, EndsOne, IsAsBefore, EndsSo}
 use Rattle.replica.specs.Over.{MeetsOver}
 use Rattle.replica.proofs.Push.{due_push, responds_push, applies_push, with_event}
 use Rattle.replica.proofs.PayloadSteps.{stands_going, stands_ended, stops, ended, rest_length}
@@ -163,7 +163,7 @@ module _ {S : Type 0} (g : Ghosts S) (settled : (h : Held S) (db : Trees) → Is
   -- ---- an event of the dump
   module _ (s : Session) (store after : Store S g) (schema : Schema) (pos : Position) (p : Payload) (m : MeetsOver g s store schema pos p) (same_names : after.following ≡ store.following) where
     pub dump_goes_on : (new : Session) (gatherer : Gatherer) (applied : Bool) → new.ended ≡ None
-        → (f : GoesFurther g m.is m.now m.meets.reading.events m.meets.reading.deliveries p store after gatherer applied)
+        → (f : GoesFurther g (so_far m.is m.now m.meets.reading.events m.meets.reading.deliveries) p store after gatherer applied)
         → GoesOn (parts_of new) store.following (sends_on pos new.out.items) m.is f.after
         → StandsOver g new after schema pos
     dump_goes_on new gatherer applied none f goes =
@@ -173,7 +173,7 @@ module _ {S : Type 0} (g : Ghosts S) (settled : (h : Held S) (db : Trees) → Is
 
     -- the observer waits for nothing more after it
     pub dump_until : (new : Session) (gatherer : Gatherer) (applied : Bool) (end : Ended) → new.ended ≡ Some end → end ≡ record { reason = Until; at = new.at; applied = new.applied }
-        → (f : GoesFurther g m.is m.now m.meets.reading.events m.meets.reading.deliveries p store after gatherer applied)
+        → (f : GoesFurther g (so_far m.is m.now m.meets.reading.events m.meets.reading.deliveries) p store after gatherer applied)
         → GoesOn (parts_of new) store.following (sends_on pos new.out.items) m.is f.after
         → StandsOver g new after schema pos
     dump_until new gatherer applied end some is f goes =
@@ -203,7 +203,7 @@ module _ {S : Type 0} (g : Ghosts S) (settled : (h : Held S) (db : Trees) → Is
 
       -- the store is whole or broken as it was
       rests_so : (reason : Reason) (at : ℕ) → new.ended ≡ Some (record { reason = reason; at = at; applied = s.applied })
-          → IsAsBefore g m.is m.now m.meets.reading.events m.meets.reading.deliveries p store after m.is
+          → IsAsBefore g (so_far m.is m.now m.meets.reading.events m.meets.reading.deliveries) p store after m.is
           → HasEnded s.config store.following (sends_on pos s.out.items) m.is m.now (record { reason = reason; at = at; applied = s.applied }) → StandsOver g new after schema pos
       rests_so reason at some rests has =
           let e : Ended = record { reason = reason; at = at; applied = s.applied } in
@@ -225,7 +225,7 @@ module _ {S : Type 0} (g : Ghosts S) (settled : (h : Held S) (db : Trees) → Is
           → Rattle.replica.specs.End.EndsWith (rest_of m.meets.reading) reason
       denied reason d = denied_ends (parts_of s) store.following (sends_on pos s.out.items) m.is m.now p m.meets dump reason room d
 
-      next_ends : (d : DeliveryValue) → EndsOne g m.is m.now m.meets.reading.events m.meets.reading.deliveries p store after d
+      next_ends : (d : DeliveryValue) → EndsOne g (so_far m.is m.now m.meets.reading.events m.meets.reading.deliveries) p store after d
           → NextEnds (rest_of m.meets.reading) m.meets.reading.deliveries d
       next_ends d e = record {
         payload = p;
@@ -236,7 +236,7 @@ module _ {S : Type 0} (g : Ghosts S) (settled : (h : Held S) (db : Trees) → Is
         delivers = e.delivers;
       }
 
-      one_more : (cause : StoreFault) (error : Error) → cause ≡ fault.Database error → (d : DeliveryValue) → EndsOne g m.is m.now m.meets.reading.events m.meets.reading.deliveries p store after d → (left : Content)
+      one_more : (cause : StoreFault) (error : Error) → cause ≡ fault.Database error → (d : DeliveryValue) → EndsOne g (so_far m.is m.now m.meets.reading.events m.meets.reading.deliveries) p store after d → (left : Content)
           → (left ≡ m.now) ⊎ HasOutcome store.following m.now d (done left)
           → IsLeftOfOne s.config.limit store.following pos.old pos.read m.now (record { reason = Database cause; at = s.at; applied = s.applied }) left
       one_more cause error is d e left (inl same) = inl same
@@ -252,7 +252,7 @@ module _ {S : Type 0} (g : Ghosts S) (settled : (h : Held S) (db : Trees) → Is
       })
 
       pub dump_ends : (reason : Reason) → new.ended ≡ Some (record { reason = reason; at = offset_of reason s.at end; applied = s.applied })
-          → EndsSo g m.is m.now m.meets.reading.events m.meets.reading.deliveries p store after reason → StandsOver g new after schema pos
+          → EndsSo g (so_far m.is m.now m.meets.reading.events m.meets.reading.deliveries) p store after reason → StandsOver g new after schema pos
       dump_ends SourceEof some e =
           rests_so SourceEof end some e.1 (log_ends (parts_of s) store.following (sends_on pos s.out.items) m.is m.now p m.meets dump end end_is_sum within e.0)
       dump_ends (SourceError code state message) some e =

@@ -10,7 +10,7 @@ use Rattle.store.specs.declared.fault.Applied.TheVariants as applied
 use Rattle.store.specs.declared.fault.StoreFault.TheVariants as fault
 use Rattle.store.specs.Store.{Holds, Keeps, IsBroken, Leaves}
 use Rattle.replica.specs.PayloadStep.{reason_of_events}
-use Rattle.replica.specs.Event.{GoesFurther, EndsOne, IsAsBefore, EndsSo, TakesEvent}
+use Rattle.replica.specs.Event.{so_far, GoesFurther, EndsOne, IsAsBefore, EndsSo, TakesEvent}
 
 -- ---- the event
 pub carries_event : (names : Names) (payload : List ℕ) (e : EventValue) → 1 ≤ length payload → get_or payload 0 0 ≡ 0 → IsEvent names e (take (length payload - 1) (drop 1 payload)) → Carries names payload e
@@ -28,10 +28,10 @@ events_end names es p e gather.Ended reason carries (inr h) is = subst (EndsDump
 -- ---- the store
 module _ {S : Type 0} (g : Ghosts S) (es : List EventValue) (ds : List DeliveryValue) (p : Payload) where
   -- the store is as it was
-  pub rested : (is : Bool) (now : Content) (store : Store S g) → HoldsAs g is now store → IsAsBefore g is now es ds p store store is
+  pub rested : (is : Bool) (now : Content) (store : Store S g) → HoldsAs g is now store → IsAsBefore g (so_far is now es ds) p store store is
   rested is now store holds = record { holds = holds; schema = λ _. refl }
 
-  pub ends_early : (is : Bool) (now : Content) (store : Store S g) (reason : Reason) → HoldsAs g is now store → EndsDump store.following es p reason → EndsSo g is now es ds p store store reason
+  pub ends_early : (is : Bool) (now : Content) (store : Store S g) (reason : Reason) → HoldsAs g is now store → EndsDump store.following es p reason → EndsSo g (so_far is now es ds) p store store reason
   ends_early is now store SourceEof holds h = (h, rested is now store holds)
   ends_early is now store (SourceError code state message) holds h = (h, rested is now store holds)
   ends_early is now store (Greet f) holds h = (h, rested is now store holds)
@@ -40,7 +40,7 @@ module _ {S : Type 0} (g : Ghosts S) (es : List EventValue) (ds : List DeliveryV
   ends_early is now store Memory holds h = (is, (λ b. b), rested is now store holds, λ whole broken. absurd (false≢true (sym whole ∙ broken)))
   ends_early is now store _ holds h = absurd h
 
-  pub goes_on : (is : Bool) (now : Content) (store : Store S g) (gatherer : Gatherer) → HoldsAs g is now store → GathersMore store.following es ds p [] gatherer → GoesFurther g is now es ds p store store gatherer false
+  pub goes_on : (is : Bool) (now : Content) (store : Store S g) (gatherer : Gatherer) → HoldsAs g is now store → GathersMore store.following es ds p [] gatherer → GoesFurther g (so_far is now es ds) p store store gatherer false
   goes_on is now store gatherer holds more = record {
     more = [];
     gathered = more;
@@ -51,19 +51,19 @@ module _ {S : Type 0} (g : Ghosts S) (es : List EventValue) (ds : List DeliveryV
     kept = λ _. refl;
   }
 
-  ends_one : (is : Bool) (now : Content) (old new : Store S g) (d : DeliveryValue) (gatherer : Gatherer) → GathersMore old.following es ds p (d ∷ []) gatherer → EndsOne g is now es ds p old new d
+  ends_one : (is : Bool) (now : Content) (old new : Store S g) (d : DeliveryValue) (gatherer : Gatherer) → GathersMore old.following es ds p (d ∷ []) gatherer → EndsOne g (so_far is now es ds) p old new d
   ends_one is now old new d gatherer more = record { event = more.event; carries = more.carries; delivers = more.gathers.given.deliveries }
 
   -- the observer stops before a new transaction
-  pub halts : (is : Bool) (now : Content) (store : Store S g) (d : DeliveryValue) (gatherer : Gatherer) → HoldsAs g is now store → GathersMore store.following es ds p (d ∷ []) gatherer → is_executed now d ≡ false → EndsSo g is now es ds p store store Halted
+  pub halts : (is : Bool) (now : Content) (store : Store S g) (d : DeliveryValue) (gatherer : Gatherer) → HoldsAs g is now store → GathersMore store.following es ds p (d ∷ []) gatherer → is_executed now d ≡ false → EndsSo g (so_far is now es ds) p store store Halted
   halts is now store d gatherer holds more new = (d, ends_one is now store store d gatherer more, new, rested is now store holds)
 
   -- a store that a failure has broken before
   pub over_broken : (now : Content) (old new : Store S g) (d : DeliveryValue) (gatherer : Gatherer) (r : Result Applied StoreFault) (out : Result Bool Reason) → HasFailed g old now → GathersMore old.following es ds p (d ∷ []) gatherer
-      → (r ≡ Err fault.Broken) × (new ≡ old) → out ≡ outcome_of r → TakesEvent g true now es ds p old new gatherer out
+      → (r ≡ Err fault.Broken) × (new ≡ old) → out ≡ outcome_of r → TakesEvent g (so_far true now es ds) p old new gatherer out
   over_broken now old new d gatherer r out holds more same is =
-      subst (λ x. TakesEvent g true now es ds p old x gatherer out) (sym same.1)
-      (subst (TakesEvent g true now es ds p old old gatherer) (sym (is ∙ ap outcome_of same.0)) (
+      subst (λ x. TakesEvent g (so_far true now es ds) p old x gatherer out) (sym same.1)
+      (subst (TakesEvent g (so_far true now es ds) p old old gatherer) (sym (is ∙ ap outcome_of same.0)) (
         d,
         ends_one true now old old d gatherer more,
         record {
@@ -77,8 +77,8 @@ module _ {S : Type 0} (g : Ghosts S) (es : List EventValue) (ds : List DeliveryV
   pub over_whole : (now : Content) (old new : Store S g) (d : DeliveryValue) (gatherer : Gatherer) (r : Result Applied StoreFault) (out : Result Bool Reason) → Holds g old now → GathersMore old.following es ds p (d ∷ []) gatherer
       → Applies g now d old new r → (new.broken ≡ false → (state g new.conn).now.schema ≡ (state g old.conn).now.schema)
       → ((trees : Trees) → (state g new.conn).may_leave trees → Leaves (state g old.conn).now.schema old.following now d r trees)
-      → out ≡ outcome_of r → TakesEvent g false now es ds p old new gatherer out
-  over_whole now old new d gatherer (Ok applied.Done) out holds more it schema leaves is = subst (TakesEvent g false now es ds p old new gatherer) (sym is) (record {
+      → out ≡ outcome_of r → TakesEvent g (so_far false now es ds) p old new gatherer out
+  over_whole now old new d gatherer (Ok applied.Done) out holds more it schema leaves is = subst (TakesEvent g (so_far false now es ds) p old new gatherer) (sym is) (record {
     more = d ∷ [];
     gathered = more;
     after = it.after;
@@ -87,7 +87,7 @@ module _ {S : Type 0} (g : Ghosts S) (es : List EventValue) (ds : List DeliveryV
     schema = λ _. schema it.holds.whole;
     kept = λ b. absurd (false≢true b);
   })
-  over_whole now old new d gatherer (Ok applied.Repeat) out holds more it schema leaves is = subst (TakesEvent g false now es ds p old new gatherer) (sym is) (record {
+  over_whole now old new d gatherer (Ok applied.Repeat) out holds more it schema leaves is = subst (TakesEvent g (so_far false now es ds) p old new gatherer) (sym is) (record {
     more = d ∷ [];
     gathered = more;
     after = now;
@@ -96,11 +96,11 @@ module _ {S : Type 0} (g : Ghosts S) (es : List EventValue) (ds : List DeliveryV
     schema = λ _. ap (λ (x : Store S g). (state g x.conn).now.schema) it.1;
     kept = λ b. refl;
   })
-  over_whole now old new d gatherer (Err (fault.NoSuchRow at)) out holds more it schema leaves is = subst (TakesEvent g false now es ds p old new gatherer) (sym is)
+  over_whole now old new d gatherer (Err (fault.NoSuchRow at)) out holds more it schema leaves is = subst (TakesEvent g (so_far false now es ds) p old new gatherer) (sym is)
       (d, ends_one false now old new d gatherer more, it.0, record { holds = it.1; schema = λ _. schema it.1.whole })
-  over_whole now old new d gatherer (Err (fault.CountFull at)) out holds more it schema leaves is = subst (TakesEvent g false now es ds p old new gatherer) (sym is)
+  over_whole now old new d gatherer (Err (fault.CountFull at)) out holds more it schema leaves is = subst (TakesEvent g (so_far false now es ds) p old new gatherer) (sym is)
       (d, ends_one false now old new d gatherer more, it.0, record { holds = it.1; schema = λ _. schema it.1.whole })
-  over_whole now old new d gatherer (Err (fault.Database e)) out holds more it schema leaves is = subst (TakesEvent g false now es ds p old new gatherer) (sym is) (
+  over_whole now old new d gatherer (Err (fault.Database e)) out holds more it schema leaves is = subst (TakesEvent g (so_far false now es ds) p old new gatherer) (sym is) (
     d,
     ends_one false now old new d gatherer more,
     record {
@@ -112,7 +112,7 @@ module _ {S : Type 0} (g : Ghosts S) (es : List EventValue) (ds : List DeliveryV
       ];
     },
   )
-  over_whole now old new d gatherer (Err fault.Memory) out holds more it schema leaves is = subst (TakesEvent g false now es ds p old new gatherer) (sym is)
+  over_whole now old new d gatherer (Err fault.Memory) out holds more it schema leaves is = subst (TakesEvent g (so_far false now es ds) p old new gatherer) (sym is)
       (true, (λ _. refl), record { holds = it.1; schema = λ b. absurd (true≢false b) }, λ whole broken trees left. leaves trees left)
   over_whole now old new d gatherer (Err fault.Damaged) out holds more it schema leaves is = absurd it
   over_whole now old new d gatherer (Err (fault.Layout n)) out holds more it schema leaves is = absurd it

@@ -53,7 +53,7 @@ sees_event names es p was is e pending some first carries count seen = record {
 -- ---- the payload
 module _ (names : Names) (es : List EventValue) (ds : List DeliveryValue) (p : Payload) (gatherer : Gatherer) (t0 t1 t2 : Account) where
   -- it ends no transaction, and the connection goes on
-  pub seen_on : SeesEvent names es p t0 t1 → SeesPayload names es p ds gatherer t0 t1 (Ok false)
+  pub seen_on : SeesEvent names es p t0 t1 → SeesPayload names es p (record { deliveries = ds; gatherer = gatherer }) t0 t1 (Ok false)
   seen_on s = record {
     first = s.first;
     of_event = s.of_event;
@@ -63,7 +63,7 @@ module _ (names : Names) (es : List EventValue) (ds : List DeliveryValue) (p : P
   }
 
   -- it ends the connection
-  pub seen_refused : (reason : Reason) → SeesEvent names es p t0 t1 → t1.noted ≡ t0.noted → t2.noted ≡ t1.noted → HasBeenSeen t1.seen t2.seen (refused_payload p reason ∷ []) → SeesPayload names es p ds gatherer t0 t2 (Err reason)
+  pub seen_refused : (reason : Reason) → SeesEvent names es p t0 t1 → t1.noted ≡ t0.noted → t2.noted ≡ t1.noted → HasBeenSeen t1.seen t2.seen (refused_payload p reason ∷ []) → SeesPayload names es p (record { deliveries = ds; gatherer = gatherer }) t0 t2 (Err reason)
   seen_refused reason s same unnoted seen = record {
     first = s.first;
     of_event = s.of_event;
@@ -73,11 +73,11 @@ module _ (names : Names) (es : List EventValue) (ds : List DeliveryValue) (p : P
   }
 
   -- it ends a transaction
-  pub seen_transaction : (d : DeliveryValue) (result : Result Bool Reason) → SeesEvent names es p t0 t1 → GathersMore names es ds p (d ∷ []) gatherer → t2.seen ≡ t1.seen → SeesPayload names es p ds gatherer t0 t2 result
+  pub seen_transaction : (d : DeliveryValue) (result : Result Bool Reason) → SeesEvent names es p t0 t1 → GathersMore names es ds p (d ∷ []) gatherer → t2.seen ≡ t1.seen → SeesPayload names es p (record { deliveries = ds; gatherer = gatherer }) t0 t2 result
   seen_transaction d result s more same = record {
     first = s.first;
     of_event = s.of_event;
     last = [];
-    at_end = elim result as (λ r. IsSeenLast names es p ds gatherer t0 t2 r []) [ Ok applied ↦ refl | Err reason ↦ inr (refl, (d, more)) ];
+    at_end = elim result as (λ r. IsSeenLast names es p (record { deliveries = ds; gatherer = gatherer }) (t2.noted ≡ t0.noted) r []) [ Ok applied ↦ refl | Err reason ↦ inr (refl, (d, more)) ];
     added = subst (λ (l : List Seen). HasBeenSeen t0.seen t2.seen l) (sym (append-nil s.first)) (subst (λ (o : Option (List Seen)). HasBeenSeen t0.seen o s.first) (sym same) s.added);
   }

@@ -16,7 +16,7 @@ ghost use Rattle.replica.specs.Message.{begins_event};
 ghost use Rattle.store.specs.Changes.{is_executed};
 ghost use Rattle.replica.specs.Conn.{IsOwn};
 ghost use Rattle.replica.specs.Alone.{TakesAlone, IsOwnOrHalted};
-ghost use Rattle.replica.specs.Event.{TakesEvent};
+ghost use Rattle.replica.specs.Event.{TakesEvent, so_far};
 ghost use Rattle.replica.specs.Noted.{HasNotices, HasNoNotice, asked_about, MayEnd};
 ghost use Rattle.replica.specs.Sees.{SeesEvent, SeesPayload};
 ghost use Rattle.replica.specs.Missing.{waits_for_none};
@@ -143,7 +143,7 @@ pub(crate) fn apply<S: Alter, W: Observer>(
         (gatherer : Gatherer) → HoldsAs S.Store is now store.old
         → GathersMore (names_of S.Store store.old) es ds p
         (delivery_value delivery.now ∷ []) gatherer
-        → TakesEvent S.Store is now es ds p store.old store.new gatherer result }
+        → TakesEvent S.Store (so_far is now es ds) p store.old store.new gatherer result }
     ensures alone { HasCleanDisk (database S.Store store.new) → (now : Content)
         → Holds S.Store store.old now
         → TakesAlone S.Store now (delivery_value delivery.now) store.old store.new result }
@@ -174,12 +174,13 @@ pub(crate) fn take_event<S: Alter, W: Observer>(
     ensures step { HasCleanDisk (database S.Store store.new)
         → (is : Bool) (now : Content) (es : List EventValue) (ds : List DeliveryValue)
         → Gathers es ds gatherer.old → HoldsAs S.Store is now store.old
-        → TakesEvent S.Store is now es ds payload.now store.old store.new gatherer.new result }
+        → TakesEvent S.Store (so_far is now es ds) payload.now store.old store.new
+        gatherer.new result }
     // The observer is given the event, if one is read; and then the payload with the reason, if it ends the connection and no
     // transaction; and nothing else.
     ensures sees { (es : List EventValue) (ds : List DeliveryValue) → Gathers es ds gatherer.old
-        → SeesPayload (names_of S.Store store.old) es payload.now ds gatherer.new
-        (W.account observer.old) (W.account observer.new) result }
+        → SeesPayload (names_of S.Store store.old) es payload.now
+        (record { deliveries = ds; gatherer = gatherer.new }) (W.account observer.old) (W.account observer.new) result }
 {
     match gather(alloc, gatherer, store.following(), payload, observer) {
         Ok(Some(delivery)) => apply(store, &delivery, observer),

@@ -1,5 +1,5 @@
 use Rattle.replica.proofs.Names.{Bool, true, false, [], subst, sym, ◌∙◌, refl, delivery_value, HoldsAs, HasNotices, Account, IsLedOver}
-use Rattle.replica.specs.Event.{TakesEvent}
+use Rattle.replica.specs.Event.{so_far, TakesEvent}
 use Rattle.replica.specs.Noted.{asked_about}
 use Rattle.replica.proofs.Notices.{Asks, led_to_stop, led_broken, led_whole}
 use Rattle.replica.proofs.Events.{halts, over_broken, over_whole, heeded}
@@ -16,7 +16,7 @@ returns-clause-step g c clean is now es ds p gatherer holds more =
     let d = delivery_value c.args.delivery.now in
     let store = c.args.store.now in
     let new = c.apply.new.self in
-    elim is as (λ b. HoldsAs g.S.Store b now store → TakesEvent g.S.Store b now es ds p store new gatherer c.outcome-outcome.result) [
+    elim is as (λ b. HoldsAs g.S.Store b now store → TakesEvent g.S.Store (so_far b now es ds) p store new gatherer c.outcome-outcome.result) [
       | true ↦ λ holds. over_broken g.S.Store es ds p now store new d gatherer c.apply.result c.outcome-outcome.result holds more (c.apply.ensures.broken holds.broken) c.outcome-outcome.ensures.maps
       | false ↦ λ holds. over_whole g.S.Store es ds p now store new d gatherer c.apply.result c.outcome-outcome.result holds more (c.apply.ensures.applies clean now holds) (c.apply.ensures.schema clean now holds)
           (c.apply.ensures.crash clean now holds) c.outcome-outcome.ensures.maps
