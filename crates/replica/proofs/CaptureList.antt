@@ -28,7 +28,7 @@ module _ {S : Type 0} (g : Ghosts S) {R : Type 0} (left : R → Option (List ℕ
   pub read_one : {E : Type 0} (limit other most : ℕ) (before after : Store S g) (capture : Capture R) (first : List ℕ) (rest : Option (List ℕ)) (result : Result Ended E) → other ≡ limit → first ≡ option_to_list capture.first
       → IfOk result (λ end. HasCleanDisk (database g after) → (was : Bool) (old : Content) → HoldsAs g was old before → HasReadOf g other most before after was old first (left capture.reader) rest end)
       → IfOk result (λ end. HasCleanDisk (database g after) → (was : Bool) (old : Content) → HoldsAs g was old before → end.reason ≡ EndOfInput → IsAtEnd rest)
-      → IfOk result (λ end. HasCleanDisk (database g after) → (was : Bool) (old : Content) → HoldsAs g was old before → HasReadOne g left limit before after was old capture end)
+      → IfOk result (λ end. HasCleanDisk (database g after) → (was : Bool) (old : Content) → HoldsAs g was old before → HasReadOne g left limit before after (record { broken = was; content = old }) capture end)
   read_one limit other most before after capture first rest (Ok end) same is read all = λ clean was old holds.
       let r = read clean was old holds in
       record {
@@ -53,7 +53,7 @@ module _ {S : Type 0} (g : Ghosts S) {R : Type 0} (left : R → Option (List ℕ
       }
 
   pub unread_one : ((h : Held S) (db : Trees) → IsTrue (state g h).is_open → (state g h).may_leave db → db ≡ (state g h).committed.trees) → (limit : ℕ) (store : Store S g) (was : Bool) (old : Content) (capture : Capture R) → HoldsAs g was old store
-      → HasReadOne g left limit store store was old capture (record { reason = Memory; at = 0; applied = 0 })
+      → HasReadOne g left limit store store (record { broken = was; content = old }) capture (record { reason = Memory; at = 0; applied = 0 })
   unread_one settled limit store was old capture holds = record {
     b = option_to_list capture.first ++ [];
     is_read = record { comes = record { rest = left capture.reader; read = []; consumes = Consumes-nil (left capture.reader); bytes = refl }; all = λ bad. cc };
@@ -66,7 +66,7 @@ module _ {S : Type 0} (g : Ghosts S) {R : Type 0} (left : R → Option (List ℕ
 
   -- one capture more
   pub captures_more : (limit : ℕ) (before after : Store S g) (schema : Schema) (was : Bool) (old : Content) (captures : List (Capture R)) (ends : List Ended) (capture : Capture R) (end : Ended) → (before.broken ≡ true → after ≡ before)
-      → (t : AreRead left (HasReadAll g limit before schema was old) captures ends) → HasReadOne g left limit before after t.holds.is t.holds.new capture end
+      → (t : AreRead left (HasReadAll g limit before schema was old) captures ends) → HasReadOne g left limit before after (record { broken = t.holds.is; content = t.holds.new }) capture end
       → AreRead left (HasReadAll g limit after schema was old) (captures ++ capture ∷ []) (ends ++ end ∷ [])
   captures_more limit before after schema was old captures ends capture end broken t one = record {
     bs = t.bs ++ one.b ∷ [];

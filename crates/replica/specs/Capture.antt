@@ -9,6 +9,7 @@ use Rattle.replica.specs.declared.captures.Halt.{Halt}
 use Rattle.replica.specs.declared.captures.Halt.TheVariants.{Reader, Observer}
 use Rattle.replica.specs.declared.end.Reason.TheVariants.{EndOfInput}
 use Rattle.replica.specs.declared.end.Ended.{Ended}
+use Rattle.replica.specs.Conn.{StoreState}
 use Rattle.replica.specs.Over.{HasRead}
 
 module _ {R : Type 0} (left : R → Option (List ℕ)) where
@@ -58,10 +59,10 @@ module _ {R : Type 0} (left : R → Option (List ℕ)) (P : List (List ℕ) → 
 
 module _ {S : Type 0} (g : Ghosts S) {R : Type 0} (left : R → Option (List ℕ)) where
   -- A store that held this content, and had failed or not, has read this capture with this end.
-  pub record HasReadOne (limit : ℕ) (before after : Store S g) (was : Bool) (old : Content) (capture : Capture R) (end : Ended) : Type 0 where
+  pub record HasReadOne (limit : ℕ) (before after : Store S g) (held : StoreState) (capture : Capture R) (end : Ended) : Type 0 where
     pub b : List ℕ
     pub is_read : IsReadAs left capture b end
-    pub has_read : HasRead g limit before after was old b end
+    pub has_read : HasRead g limit before after held.broken held.content b end
 
   -- The reader of the capture failed, and what it had given did not end the connection.
   pub record HasBrokenOff (limit : ℕ) (before after : Store S g) (was : Bool) (old : Content) (capture : Capture R) : Type 0 where

@@ -48,8 +48,8 @@ fn read_capture<R: Read + Drop, S: Alter, W: Observer>(
     ensures piece { length piece.new ≡ length piece.old }
     ensures read { IfOk result (λ end. HasCleanDisk (database S.Store store.new)
         → (was : Bool) (old : Content) → HoldsAs S.Store was old store.old
-        → HasReadOne S.Store R.Read.remaining config.now.limit store.old store.new was old capture
-        end) }
+        → HasReadOne S.Store R.Read.remaining config.now.limit store.old store.new
+        (record { broken = was; content = old }) capture end) }
     ensures failed { IfErr result (λ _. HasCleanDisk (database S.Store store.new)
         → (was : Bool) (old : Content) → HoldsAs S.Store was old store.old
         → HasBrokenOff S.Store R.Read.remaining config.now.limit store.old store.new was old
