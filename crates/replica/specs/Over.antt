@@ -22,6 +22,10 @@ pub record Taking : Type 0 where
   pub left : Option (List ℕ)
   pub left_after : Option (List ℕ)
 
+-- of a reader, by what it says that it has left
+abbrev pub taking : {R : Type 0} → (R → Option (List ℕ)) → List ℕ → ℕ → R → R → Taking
+taking left first most before after = record { first = first; most = most; left = left before; left_after = left after }
+
 module _ {S : Type 0} (g : Ghosts S) where
   -- Whatever a crash may leave of the store's database stands, under the schema, for one of these contents.
   pub record LeavesOnly (schema : Schema) (store : Store S g) (left : Content → Type 0) : Type 0 where

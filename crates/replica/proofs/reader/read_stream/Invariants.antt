@@ -1,4 +1,5 @@
 use Rattle.replica.proofs.Names.{◌<◌, length, [], MayEnd, end_of, KeepsObserved}
+use Rattle.replica.specs.Over.{taking}
 use Rattle.replica.proofs.FromReader.{IsTaking, turns_left}
 use Rattle.replica.proofs.reader.read_stream.Given as goal
 
@@ -7,7 +8,7 @@ invariant-loop-reader g l = record {
   some : 0 < length l.piece;
   may : MayEnd (end_of l.session).reason (g.W.Observer.account l.observer);
   keeps : KeepsObserved g.S.Store l.fn.store l.store (g.W.Observer.account l.fn.observer) (g.W.Observer.account l.observer) [];
-  taking : IsTaking g.S.Store l.fn.config.limit (record { first = l.fn.first; most = length l.fn.piece; left = g.R.Read.remaining l.fn.reader; left_after = g.R.Read.remaining l.reader }) l.fn.store l.session l.store;
+  taking : IsTaking g.S.Store l.fn.config.limit (taking g.R.Read.remaining l.fn.first (length l.fn.piece) l.fn.reader l.reader) l.fn.store l.session l.store;
 }
 
 abbrev pub decreases-loop-reader : goal.decreases-loop-reader
