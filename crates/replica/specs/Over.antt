@@ -23,8 +23,8 @@ pub record Taking : Type 0 where
   pub left_after : Option (List ℕ)
 
 -- of a reader, by what it says that it has left
-abbrev pub taking : {R : Type 0} → (R → Option (List ℕ)) → List ℕ → ℕ → R → R → Taking
-taking left first most before after = record { first = first; most = most; left = left before; left_after = left after }
+abbrev pub taken_from : {R : Type 0} → (R → Option (List ℕ)) → List ℕ → ℕ → R → R → Taking
+taken_from left first most before after = record { first = first; most = most; left = left before; left_after = left after }
 
 module _ {S : Type 0} (g : Ghosts S) where
   -- Whatever a crash may leave of the store's database stands, under the schema, for one of these contents.

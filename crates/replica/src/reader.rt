@@ -8,7 +8,7 @@ ghost use Rattle.store.specs.State.{Content};
 ghost use Rattle.store.specs.Store.{HoldsAs, database};
 ghost use Rattle.replica.specs.declared.end.Reason.TheVariants.{EndOfInput};
 ghost use Rattle.replica.specs.declared.end.Ended.{Ended as End};
-ghost use Rattle.replica.specs.Over.{HasReadOf, taking};
+ghost use Rattle.replica.specs.Over.{HasReadOf, taken_from};
 ghost use Rattle.replica.specs.Noted.{MayEnd};
 ghost use Rattle.replica.specs.Keeps.{KeepsObserved};
 
@@ -56,7 +56,7 @@ pub fn read_stream<R: Read, S: Alter, W: Observer>(
     ensures read { IfOk result (λ end. HasCleanDisk (database S.Store store.new)
         → (was : Bool) (old : Content) → HoldsAs S.Store was old store.old
         → HasReadOf S.Store config.limit store.old store.new was old
-        (taking R.remaining first.now (length piece.old) reader.old reader.new) end) }
+        (taken_from R.remaining first.now (length piece.old) reader.old reader.new) end) }
     // If the input has ended, nothing is left unread.
     ensures all { IfOk result (λ end. HasCleanDisk (database S.Store store.new)
         → (was : Bool) (old : Content) → HoldsAs S.Store was old store.old → end.reason ≡ EndOfInput
@@ -66,7 +66,7 @@ pub fn read_stream<R: Read, S: Alter, W: Observer>(
         → (was : Bool) (old : Content) → HoldsAs S.Store was old store.old
         → (end : End) × (end.reason ≡ EndOfInput)
         × HasReadOf S.Store config.limit store.old store.new was old
-        (taking R.remaining first.now (length piece.old) reader.old reader.new) end) }
+        (taken_from R.remaining first.now (length piece.old) reader.old reader.new) end) }
     // The connection is halted only if the observer has stopped.
     ensures may_end { IfOk result (λ end. MayEnd end.reason (W.account observer.new)) }
     // What was reported to the observer leads from the content before to the one afterwards; once it has stopped, the store

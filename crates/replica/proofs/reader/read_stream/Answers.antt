@@ -5,7 +5,7 @@ use Rattle.replica.specs.Standing.{from_start, having_read}
 use Rattle.replica.proofs.ObserverEnds.{may_later}
 use Rattle.replica.proofs.Advance.{none_after}
 use Rattle.replica.proofs.Runs.{begins}
-use Rattle.replica.specs.Over.{taking}
+use Rattle.replica.specs.Over.{taken_from}
 use Rattle.replica.proofs.FromReader.{taking_more, taken, no_end, is_ended, not_ended, going_on, Keeps-from_none}
 use Rattle.replica.proofs.Keeps.{keeps_noticed, keeps_then}
 use Rattle.replica.proofs.reader.read_stream.Goals as goal
@@ -34,7 +34,7 @@ loop-reader-preserved g c = record {
       (may_later (end_of c.loop-reader.session).reason (g.W.Observer.account c.loop-reader.observer) (g.W.Observer.account c.received-in-Ok.new.self) [] c.received-in-Ok.ensures.noticed.stays c.received-in-Ok.ensures.noticed.waits c.loop-reader.invariant.may);
   keeps = keeps_then g.S.Store c.loop-reader.invariant.keeps
       (keeps_then g.S.Store (keeps_noticed g.S.Store c.received-in-Ok.ensures.noticed) c.feed_observed-in-Ok.ensures.keeps);
-  taking = taking_more g.S.Store c.args.config.limit (taking g.R.Read.remaining c.args.first.now (length c.args.piece.now) c.args.reader.now c.loop-reader.reader) c.args.store.now c.loop-reader.session c.loop-reader.store
+  taking = taking_more g.S.Store c.args.config.limit (taken_from g.R.Read.remaining c.args.first.now (length c.args.piece.now) c.args.reader.now c.loop-reader.reader) c.args.store.now c.loop-reader.session c.loop-reader.store
       c.feed_observed-in-Ok.new.self c.feed_observed-in-Ok.new.store (g.R.Read.remaining c.read_some.new.reader) (take c.in-Ok.count c.read_some.new.piece) c.loop-reader.invariant.taking
       (none_after c.loop-reader.session.ended (not_ended (λ e. e.now) c.ended.result c.loop-reader.session.ended c.ended.ensures c.loop-reader-test.ensures)) (search rules) c.in-Ok.ensures.bytes.0
       c.feed_observed-in-Ok.ensures.config c.feed_observed-in-Ok.ensures.keeps.store c.feed_observed-in-Ok.ensures.stands;
@@ -43,7 +43,7 @@ loop-reader-preserved g c = record {
 pub returns-in-Ok-eq0-clause-read : goal.returns-in-Ok-eq0-clause-read
 returns-in-Ok-eq0-clause-read g c clean was old holds =
     let zero : c.in-Ok-eq0.field-0 ≡ 0 = search rules in
-    taken g.S.Store c.args.config.limit (taking g.R.Read.remaining c.args.first.now (length c.args.piece.now) c.args.reader.now c.loop-reader.reader) c.args.store.now c.loop-reader.session c.loop-reader.store
+    taken g.S.Store c.args.config.limit (taken_from g.R.Read.remaining c.args.first.now (length c.args.piece.now) c.args.reader.now c.loop-reader.reader) c.args.store.now c.loop-reader.session c.loop-reader.store
     (g.R.Read.remaining c.read_some.new.reader) was old c.finish.result c.loop-reader.invariant.taking
     (Keeps-from_none (g.R.Read.remaining c.loop-reader.reader) (g.R.Read.remaining c.read_some.new.reader) (subst (λ (n : ℕ). Consumes (g.R.Read.remaining c.loop-reader.reader) (g.R.Read.remaining c.read_some.new.reader) (take n c.read_some.new.piece)) zero c.in-Ok-eq0.ensures.bytes.0)) c.finish.ensures.end clean holds
 
@@ -51,13 +51,13 @@ pub returns-in-Err-clause-failed : goal.returns-in-Err-clause-failed
 returns-in-Err-clause-failed g c clean was old holds = (
   end_of c.loop-reader.session,
   going_on c.loop-reader.session (not_ended (λ e. e.now) c.ended.result c.loop-reader.session.ended c.ended.ensures c.loop-reader-test.ensures),
-  taken g.S.Store c.args.config.limit (taking g.R.Read.remaining c.args.first.now (length c.args.piece.now) c.args.reader.now c.loop-reader.reader) c.args.store.now c.loop-reader.session c.loop-reader.store
+  taken g.S.Store c.args.config.limit (taken_from g.R.Read.remaining c.args.first.now (length c.args.piece.now) c.args.reader.now c.loop-reader.reader) c.args.store.now c.loop-reader.session c.loop-reader.store
       (g.R.Read.remaining c.read_some.new.reader) was old (end_of c.loop-reader.session) c.loop-reader.invariant.taking c.in-Err.ensures.bytes refl clean holds,
 )
 
 pub returns-clause-read : goal.returns-clause-read
 returns-clause-read g c clean was old holds =
-    taken g.S.Store c.args.config.limit (taking g.R.Read.remaining c.args.first.now (length c.args.piece.now) c.args.reader.now c.loop-reader.reader) c.args.store.now c.loop-reader.session c.loop-reader.store
+    taken g.S.Store c.args.config.limit (taken_from g.R.Read.remaining c.args.first.now (length c.args.piece.now) c.args.reader.now c.loop-reader.reader) c.args.store.now c.loop-reader.session c.loop-reader.store
     (g.R.Read.remaining c.loop-reader.reader) was old c.finish-2.result c.loop-reader.invariant.taking (Keeps-refl (g.R.Read.remaining c.loop-reader.reader)) c.finish-2.ensures.end clean holds
 
 pub returns-clause-all : goal.returns-clause-all

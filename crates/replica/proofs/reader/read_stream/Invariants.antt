@@ -1,5 +1,5 @@
 use Rattle.replica.proofs.Names.{◌<◌, length, [], MayEnd, end_of, KeepsObserved}
-use Rattle.replica.specs.Over.{taking}
+use Rattle.replica.specs.Over.{taken_from}
 use Rattle.replica.proofs.FromReader.{IsTaking, turns_left}
 use Rattle.replica.proofs.reader.read_stream.Given as goal
 
@@ -8,7 +8,7 @@ invariant-loop-reader g l = record {
   some : 0 < length l.piece;
   may : MayEnd (end_of l.session).reason (g.W.Observer.account l.observer);
   keeps : KeepsObserved g.S.Store l.fn.store l.store (g.W.Observer.account l.fn.observer) (g.W.Observer.account l.observer) [];
-  taking : IsTaking g.S.Store l.fn.config.limit (taking g.R.Read.remaining l.fn.first (length l.fn.piece) l.fn.reader l.reader) l.fn.store l.session l.store;
+  taking : IsTaking g.S.Store l.fn.config.limit (taken_from g.R.Read.remaining l.fn.first (length l.fn.piece) l.fn.reader l.reader) l.fn.store l.session l.store;
 }
 
 abbrev pub decreases-loop-reader : goal.decreases-loop-reader
