@@ -26,7 +26,7 @@ module _ {R : Type 0} (left : R → Option (List ℕ)) where
 
 module _ {S : Type 0} (g : Ghosts S) {R : Type 0} (left : R → Option (List ℕ)) where
   pub read_one : {E : Type 0} (limit other most : ℕ) (before after : Store S g) (capture : Capture R) (first : List ℕ) (rest : Option (List ℕ)) (result : Result Ended E) → other ≡ limit → first ≡ option_to_list capture.first
-      → IfOk result (λ end. HasCleanDisk (database g after) → (was : Bool) (old : Content) → HoldsAs g was old before → HasReadOf g other most before after was old first (left capture.reader) rest end)
+      → IfOk result (λ end. HasCleanDisk (database g after) → (was : Bool) (old : Content) → HoldsAs g was old before → HasReadOf g other before after was old (record { first = first; most = most; left = left capture.reader; left_after = rest }) end)
       → IfOk result (λ end. HasCleanDisk (database g after) → (was : Bool) (old : Content) → HoldsAs g was old before → end.reason ≡ EndOfInput → IsAtEnd rest)
       → IfOk result (λ end. HasCleanDisk (database g after) → (was : Bool) (old : Content) → HoldsAs g was old before → HasReadOne g left limit before after (record { broken = was; content = old }) capture end)
   read_one limit other most before after capture first rest (Ok end) same is read all = λ clean was old holds.
@@ -39,7 +39,7 @@ module _ {S : Type 0} (g : Ghosts S) {R : Type 0} (left : R → Option (List ℕ
   read_one limit other most before after capture first rest (Err e) same is read all = tt
 
   pub broken_off : {E : Type 0} (limit other most : ℕ) (before after : Store S g) (capture : Capture R) (first : List ℕ) (rest : Option (List ℕ)) (result : Result Ended E) → other ≡ limit → first ≡ option_to_list capture.first
-      → IfErr result (λ e. HasCleanDisk (database g after) → (was : Bool) (old : Content) → HoldsAs g was old before → (end : Ended) × (end.reason ≡ EndOfInput) × HasReadOf g other most before after was old first (left capture.reader) rest end)
+      → IfErr result (λ e. HasCleanDisk (database g after) → (was : Bool) (old : Content) → HoldsAs g was old before → (end : Ended) × (end.reason ≡ EndOfInput) × HasReadOf g other before after was old (record { first = first; most = most; left = left capture.reader; left_after = rest }) end)
       → IfErr result (λ e. HasCleanDisk (database g after) → (was : Bool) (old : Content) → HoldsAs g was old before → HasBrokenOff g left limit before after was old capture)
   broken_off limit other most before after capture first rest (Ok end) same is failed = tt
   broken_off limit other most before after capture first rest (Err e) same is failed = λ clean was old holds.

@@ -10,8 +10,8 @@ module _ (one_dump : (a b : DumpValue) (payload : List ℕ) → IsDump a payload
       let r = s.asked j reached in
       let l = left_transactions limit names held s.part s.new s.end left s.was s.conn s.leaves in
       elim l.left_is [
-        | inl same ↦ (l.count, subst (λ c. Reaches names history (j + l.count) c) (sym same) (cut one_dump limit names history j held s.last s.exchange r s.fewer s.are_bytes s.part s.more l.count s.end.applied s.new s.cut l.begun))
-        | inr one ↦ (l.count + 1, cut one_dump limit names history j held s.last s.exchange r s.fewer s.are_bytes s.part s.more (l.count + 1) (s.end.applied + 1) left s.cut one.2)
+        | inl same ↦ (l.count, subst (λ c. Reaches names history (j + l.count) c) (sym same) (cut one_dump limit names history j held s.last s.dialogue r s.fewer s.are_bytes s.part s.more l.count s.end.applied s.new s.cut l.begun))
+        | inr one ↦ (l.count + 1, cut one_dump limit names history j held s.last s.dialogue r s.fewer s.are_bytes s.part s.more (l.count + 1) (s.end.applied + 1) left s.cut one.2)
       ]
 
   pub never_falls : (j : ℕ) (held : Content) (lefts : List Content) → Reaches names history j held → AreRestarts limit names history held lefts → NeverFalls names history j lefts

@@ -35,7 +35,7 @@ module _ {S : Type 0} (g : Ghosts S) (sofar : SoFar) (p : Payload) (old new : St
     pub gathered : GathersMore (names_of g old) sofar.events sofar.deliveries p more gatherer
     pub after : Content
     pub applies : AppliesAll (names_of g old) sofar.now more (if applied then 1 else 0) after
-    pub holds : HoldsAs g is after new
+    pub holds : HoldsAs g sofar.is after new
     pub schema : sofar.is ≡ false → (database g new).now.schema ≡ (database g old).now.schema
     pub kept : sofar.is ≡ true → after ≡ sofar.now
 
