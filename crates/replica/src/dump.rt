@@ -180,7 +180,8 @@ pub(crate) fn take_event<S: Alter, W: Observer>(
     // transaction; and nothing else.
     ensures sees { (es : List EventValue) (ds : List DeliveryValue) → Gathers es ds gatherer.old
         → SeesPayload (names_of S.Store store.old) es payload.now
-        (record { deliveries = ds; gatherer = gatherer.new }) (W.account observer.old) (W.account observer.new) result }
+        (record { deliveries = ds; gatherer = gatherer.new }) (W.account observer.old)
+        (W.account observer.new) result }
 {
     match gather(alloc, gatherer, store.following(), payload, observer) {
         Ok(Some(delivery)) => apply(store, &delivery, observer),

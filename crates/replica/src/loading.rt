@@ -236,7 +236,8 @@ pub(crate) fn load<S: Alter, I: Deliveries, W: Observer>(
         old (copy_of (I.supply deliveries.old) copy.now) result.0 result.1 }
     ensures notes { HasCleanDisk (database S.Store store.new) → (old : Content)
         → Holds S.Store store.old old → IsLedByLoad S.Store store.old store.new old
-        (copy_of (I.supply deliveries.old) copy.now) (W.account observer.old) (W.account observer.new) result.1 }
+        (copy_of (I.supply deliveries.old) copy.now) (W.account observer.old)
+        (W.account observer.new) result.1 }
     ensures asked { MayStopLoad result.1 (W.account observer.new) }
     ensures unreported { UnlessLoaded result.1 (observer.new ≡ observer.old) }
     ensures keeps { KeepsStore S.Store store.old store.new }
