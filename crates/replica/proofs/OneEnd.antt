@@ -1,5 +1,5 @@
 -- A connection's bytes have one end.
-use Rattle.replica.proofs.Names.{◌≡◌, ◌≢◌, ℕ, ◌⊎◌, ◌≤◌, ◌<◌, ◌+◌, ◌^◌, false, List, [], ◌∷◌, ◌++◌, length, take, refl, sym, ap, ◌∙◌, inl, inr, Some, None, Option, subst, append_assoc, arith, length-append, AllByRecursion, true≢false, WireFault, IsWholePayload, IsUnfinished, Payload, Names, EventValue, IsEvent, DeliveryValue, AreDeliveries, Reason, EndOfInput, SourceEof, SourceError, Wire, Greet, Event, Gather, Due, Hello, Reply, SecondReply, QueryReply, InDump, IsInDump, Carries, Answers, Talks, Reading, next_due, next_id, due_from, due_after, refusal_of, begins_event, IsNoEvent, HasNext, StopsAt, EndsLog, StopsFor, IsWrong, Denies, End}
+use Rattle.replica.proofs.Names.{◌≡◌, ◌≢◌, ℕ, ◌⊎◌, ◌≤◌, ◌<◌, ◌+◌, ◌^◌, false, List, [], ◌∷◌, ◌++◌, length, take, refl, sym, ap, ◌∙◌, inl, inr, Some, None, Option, subst, append_assoc, arith, length-append, AllByRecursion, true≢false, WireFault, IsWholePayload, IsUnfinished, Payload, Names, EventValue, IsEvent, DeliveryValue, AreDeliveries, Reason, EndOfInput, SourceEof, SourceError, Wire, Greet, Event, Gather, Due, Hello, Reply, SecondReply, QueryReply, InDump, IsInDump, Carries, Answers, Talks, Reading, next_due, next_id, due_from, refusal_of, begins_event, IsNoEvent, HasNext, StopsAt, EndsLog, StopsFor, IsWrong, Denies, End}
 use Rattle.std.proofs.Common.{if◌then◌else◌, ◌==◌}
 use Rattle.std.proofs.Math.Seq.{take-append_seam}
 use Rattle.wire.specs.declared.fault.WireFault.TheVariants as wire
