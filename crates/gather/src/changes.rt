@@ -191,16 +191,11 @@ fn append_change(
         before: size_of(before)?,
         after: size_of(after)?,
     };
-    let start = images.len();
-    images.extend_from_slice(before)?;
-    if images.extend_from_slice(after).is_err() {
-        images.truncate(start);
-        return Err(GatherFault::Memory);
-    }
-    if entries.push(entry).is_err() {
-        images.truncate(start);
-        return Err(GatherFault::Memory);
-    }
+    images.reserve(before.len() + after.len())?;
+    entries.reserve(1)?;
+    images.extend_from_slice(before).unwrap();
+    images.extend_from_slice(after).unwrap();
+    entries.push_reserved(entry);
     Ok(())
 }
 
