@@ -1,8 +1,8 @@
 -- Bitmaps of bits that are all set.
-use Rattle.binlog.proofs.Names.{◌≡◌, ℕ, suc, ◌+◌, ◌-◌, ◌*◌, ◌<◌, ◌≤◌, true, false, List, [], ◌∷◌, length, get_or, map, replicate, sym, ap, ◌∙◌, arith, inl, inr, nat_lt, range_with_len, cases_lt, lt-ltb, le-ltb, length-replicate, length-map-range_with_len, bitmap_size, bitmap_byte, full_bitmap}
+use Rattle.binlog.proofs.Names.{◌≡◌, ℕ, suc, ◌+◌, ◌-◌, ◌*◌, ◌<◌, ◌≤◌, Bool, true, false, List, [], ◌∷◌, length, get_or, map, replicate, sym, ap, ◌∙◌, arith, inl, inr, nat_lt, range_with_len, cases_lt, lt-ltb, le-ltb, length-replicate, length-map-range_with_len, bitmap_size, bitmap_byte, full_bitmap}
 use Rattle.std.proofs.lemmas.List.{get_or-replicate, get_or_past}
 use Rattle.binlog.specs.Rows.{AllPresent}
-use Rattle.binlog.specs.RowsWritten.{bits_number}
+use Rattle.binlog.specs.RowsWritten.{bits_number, bitmap_bytes}
 use Rattle.binlog.proofs.RowBytes.{set_bit}
 
 pub full_long : (n : ℕ) → length (full_bitmap n) ≡ bitmap_size n
@@ -28,22 +28,24 @@ moved n j i = elim (cases_lt (8 * j + i) n) as (λ _. nat_lt (8 * j + i) n ≡ n
   | inr ge ↦ le-ltb (8 * j + i) n ge ∙ sym (le-ltb i (n - 8 * j) (omega (arith, ge)))
 ]
 
-byte_is : (n j : ℕ) → bits_number 8 (λ i. nat_lt i (n - 8 * j)) ≡ bitmap_byte (replicate n true) j
+pub byte_is : (n j : ℕ) → bits_number 8 (λ i. nat_lt i (n - 8 * j)) ≡ bitmap_byte (replicate n true) j
 byte_is n j = ap (bits_number 8) (λ k i. sym (bit_there n (8 * j + i) ∙ moved n j i) k)
 
+-- ---- Any bits.
+
 -- the bytes from one on
-abbrev pub bytes_from : ℕ → ℕ → List ℕ
-bytes_from n j = map (bitmap_byte (replicate n true)) (range_with_len j (bitmap_size n - j))
+abbrev pub bytes_from : List Bool → ℕ → List ℕ
+bytes_from bits j = map (bitmap_byte bits) (range_with_len j (bitmap_size (length bits) - j))
 
-pub from_first : (n : ℕ) → bytes_from n 0 ≡ full_bitmap n
-from_first n =
-    let all : bitmap_size n - 0 ≡ bitmap_size (length (replicate n true)) = omega (arith, ap bitmap_size (length-replicate n true)) in
-    ap (λ k. map (bitmap_byte (replicate n true)) (range_with_len 0 k)) all
+pub from_first : (bits : List Bool) → bytes_from bits 0 ≡ bitmap_bytes bits
+from_first bits =
+    let all : bitmap_size (length bits) - 0 ≡ bitmap_size (length bits) = omega arith in
+    ap (λ k. map (bitmap_byte bits) (range_with_len 0 k)) all
 
-pub one_byte : (n j : ℕ) → j < bitmap_size n → bytes_from n j ≡ bits_number 8 (λ i. nat_lt i (n - 8 * j)) ∷ bytes_from n (j + 1)
-one_byte n j short =
-    let more : bitmap_size n - j ≡ suc (bitmap_size n - (j + 1)) = omega (arith, short) in
-    ap (λ k. map (bitmap_byte (replicate n true)) (range_with_len j k)) more ∙ ap (λ b. b ∷ bytes_from n (j + 1)) (sym (byte_is n j))
+pub next_byte : (bits : List Bool) (j byte : ℕ) → j < bitmap_size (length bits) → byte ≡ bitmap_byte bits j → bytes_from bits j ≡ byte ∷ bytes_from bits (j + 1)
+next_byte bits j byte short is =
+    let more : bitmap_size (length bits) - j ≡ suc (bitmap_size (length bits) - (j + 1)) = omega (arith, short) in
+    ap (λ k. map (bitmap_byte bits) (range_with_len j k)) more ∙ ap (λ b. b ∷ bytes_from bits (j + 1)) (sym is)
 
-pub from_last : (n j : ℕ) → bitmap_size n ≤ j → bytes_from n j ≡ []
-from_last n j past = let none : bitmap_size n - j ≡ 0 = omega (arith, past) in ap (λ k. map (bitmap_byte (replicate n true)) (range_with_len j k)) none
+pub from_last : (bits : List Bool) (j : ℕ) → bitmap_size (length bits) ≤ j → bytes_from bits j ≡ []
+from_last bits j past = let none : bitmap_size (length bits) - j ≡ 0 = omega (arith, past) in ap (λ k. map (bitmap_byte bits) (range_with_len j k)) none

@@ -20,7 +20,7 @@ pub mod RowBytes
 pub mod RowWriting
 pub mod EventFrames
 pub mod LawfulColumns
-pub mod Prefixes
+pub mod Appending
 pub mod ColumnBytes
 pub mod FullBitmap
 pub mod TableMapBytes

@@ -19,5 +19,6 @@ pub mod EventView
 pub mod Columns
 pub mod ColumnsView
 pub mod TableView
+pub mod Appending
 pub mod Writing
 pub mod Origin

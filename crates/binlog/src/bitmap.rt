@@ -1,16 +1,15 @@
 //! Bitmaps of columns, the lowest bit of each byte first. MySQL Source Documentation, "Binlog Event", the pages
 //! `binary_log::Table_map_event` and `binary_log::Rows_event`.
 
-ghost use Rattle.std.specs.Prelude.{◌≡◌, ℕ, ◌≤◌, ◌++◌, nat_lt, length, take, OnOk, OnErr, Err, ◌*◌, false, map, slice_index_or, ◌<◌, ◌+◌, vec_len, vec_capacity};
+ghost use Rattle.std.specs.Prelude.{◌≡◌, ℕ, ◌≤◌, nat_lt, length, ◌*◌, false, map, slice_index_or, ◌+◌, vec_len, vec_capacity};
 ghost use Rattle.binlog.specs.Table.{most_columns};
 ghost use Rattle.binlog.specs.Row.{is_set};
 ghost use Rattle.binlog.specs.RowsWritten.{bits_number, digit, bitmap_byte, bitmap_bytes};
 ghost use Rattle.binlog.specs.Writing.{full_bitmap};
-ghost use Rattle.binlog.specs.declared.fault.EventFaultKind.TheVariants.{Memory};
+ghost use Rattle.binlog.specs.Appending.{AppendsBytes};
 ghost use Rattle.binlog.specs.Cell.{is_null, owned_values};
 
 use crate::cell::OwnedCell;
-use crate::fault::EventFault;
 
 /// Bit i of a bitmap, the lowest bit of each byte first.
 pub(crate) fn is_set(bitmap: &[u8], i: usize) -> bool
@@ -34,19 +33,15 @@ pub(crate) fn has_set(bitmap: &[u8]) -> bool
     false
 }
 
-/// Appends a bitmap of n bits, all set, or a part of it. The unused bits of its last byte are 0.
-pub(crate) fn write_full_bitmap(n: usize, out: &mut Vec<u8>) -> Result<(), EventFault>
-    requires { n ≤ most_columns }
-    ensures ok { OnOk result (out.new.items ≡ out.old.items ++ full_bitmap n) }
-    ensures err { OnErr result (result ≡ Err (record { kind = Memory; at = 0 })) }
-    ensures kept { OnErr result (take (length out.old.items) out.new.items ≡ out.old.items) }
-    ensures full { OnErr result (vec_capacity out.old < vec_len out.old + length (full_bitmap n)) }
-    ensures capacity { vec_capacity out.old ≤ vec_capacity out.new }
+/// Appends a bitmap of n bits, all set. The unused bits of its last byte are 0.
+pub(crate) fn write_full_bitmap(n: usize, out: &mut Vec<u8>)
+    requires few { n ≤ most_columns }
+    requires room { vec_len out.old + length (full_bitmap n) ≤ vec_capacity out.old }
+    ensures { AppendsBytes out.old out.new (full_bitmap n) }
 {
     for j in 0..n.div_ceil(8) {
-        out.push(full_byte(n - 8 * j))?;
+        out.push(full_byte(n - 8 * j)).unwrap();
     }
-    Ok(())
 }
 
 /// A byte whose lowest n bits are set, or all eight.
@@ -66,20 +61,16 @@ fn full_byte(n: usize) -> u8
     }
 }
 
-/// Appends the bitmap of the null cells, or a part of it.
-pub(crate) fn write_bitmap(cells: &[OwnedCell], out: &mut Vec<u8>) -> Result<(), EventFault>
-    ensures ok { OnOk result (out.new.items ≡ out.old.items ++ bitmap_bytes
+/// Appends the bitmap of the null cells.
+pub(crate) fn write_bitmap(cells: &[OwnedCell], out: &mut Vec<u8>)
+    requires { vec_len out.old + length (bitmap_bytes (map is_null (owned_values cells.now)))
+        ≤ vec_capacity out.old }
+    ensures { AppendsBytes out.old out.new (bitmap_bytes
         (map is_null (owned_values cells.now))) }
-    ensures err { OnErr result (result ≡ Err (record { kind = Memory; at = 0 })) }
-    ensures kept { OnErr result (take (length out.old.items) out.new.items ≡ out.old.items) }
-    ensures full { OnErr result (vec_capacity out.old
-        < vec_len out.old + length (bitmap_bytes (map is_null (owned_values cells.now)))) }
-    ensures capacity { vec_capacity out.old ≤ vec_capacity out.new }
 {
     for i in 0..cells.len().div_ceil(8) {
-        out.push(null_byte(cells, i))?;
+        out.push(null_byte(cells, i)).unwrap();
     }
-    Ok(())
 }
 
 /// Byte i of the bitmap of the null cells.

@@ -1,12 +1,12 @@
 //! Counts: length-encoded integers inside an event.
 
-ghost use Rattle.std.specs.Prelude.{◌≡◌, ◌+◌, ◌≤◌, length, take, drop, IfOk, IfErr, Some, None, ◌-◌, ◌++◌, OnOk, OnErr, Err, ◌<◌, vec_len, vec_capacity};
+ghost use Rattle.std.specs.Prelude.{◌≡◌, ◌+◌, ◌≤◌, length, take, drop, IfOk, IfErr, Some, None, ◌-◌, ◌<◌, ◌^◌, vec_len, vec_capacity};
 ghost use Rattle.wire.specs.Integer as lenenc;
 ghost use Rattle.wire.specs.Integer.{IsLengthEncoded, length_encoded};
 ghost use Rattle.binlog.specs.Table.{most_columns};
 ghost use Rattle.binlog.specs.Count.{count_width, count_at, no_count};
 ghost use Rattle.binlog.specs.Writing.{count_bytes};
-ghost use Rattle.binlog.specs.declared.fault.EventFaultKind.TheVariants.{Memory};
+ghost use Rattle.binlog.specs.Appending.{AppendsBytes};
 
 use crate::fault::{EventFault, EventFaultKind};
 use wire::lenenc::{EIGHT_BYTES, MOST_IN_ONE_BYTE, THREE_BYTES, TWO_BYTES};
@@ -44,7 +44,7 @@ pub(crate) fn read_count(
 
 /// How many bytes the shortest count takes.
 pub(crate) fn count_width(count: usize) -> usize
-    requires { count ≤ most_columns }
+    requires { count < 2 ^ 16 }
     ensures width { result ≡ length (length_encoded count) }
     ensures bound { result ≤ 3 }
 {
@@ -56,41 +56,25 @@ pub(crate) fn count_width(count: usize) -> usize
 }
 
 /// Appends a count.
-pub(crate) fn write_count(count: usize, out: &mut Vec<u8>) -> Result<(), EventFault>
-    ensures ok { OnOk result (out.new.items ≡ out.old.items ++ length_encoded count) }
-    ensures err { OnErr result (result ≡ Err (record { kind = Memory; at = 0 })) }
-    ensures kept { OnErr result (take (length out.old.items) out.new.items ≡ out.old.items) }
-    ensures full { OnErr result (vec_capacity out.old
-        < vec_len out.old + length (length_encoded count)) }
-    ensures capacity { vec_capacity out.old ≤ vec_capacity out.new }
+pub(crate) fn write_count(count: usize, out: &mut Vec<u8>)
+    requires { vec_len out.old + length (length_encoded count) ≤ vec_capacity out.old }
+    ensures { AppendsBytes out.old out.new (length_encoded count) }
 {
-    match write_int(count as u64, out) {
-        Ok(()) => Ok(()),
-        Err(_) => Err(EventFault::MEMORY),
-    }
+    write_int(count as u64, out).unwrap();
 }
 
 /// Appends a count in `width` bytes.
-pub(crate) fn write_padded_count(
-    width: usize,
-    count: usize,
-    out: &mut Vec<u8>,
-) -> Result<(), EventFault>
+pub(crate) fn write_padded_count(width: usize, count: usize, out: &mut Vec<u8>)
     requires small { count ≤ most_columns }
     requires fits { width ≡ 1 → count ≤ lenenc.most_in_one_byte }
-    ensures ok { OnOk result (out.new.items ≡ out.old.items ++ count_bytes width count) }
-    ensures err { OnErr result (result ≡ Err (record { kind = Memory; at = 0 })) }
-    ensures kept { OnErr result (take (length out.old.items) out.new.items ≡ out.old.items) }
-    ensures full { OnErr result (vec_capacity out.old
-        < vec_len out.old + length (count_bytes width count)) }
-    ensures capacity { vec_capacity out.old ≤ vec_capacity out.new }
+    requires room { vec_len out.old + length (count_bytes width count) ≤ vec_capacity out.old }
+    ensures { AppendsBytes out.old out.new (count_bytes width count) }
 {
     let [a, b, ..] = count.to_le_bytes();
     match width {
-        1 => out.push(a)?,
-        3 => out.extend_from_slice(&[TWO_BYTES, a, b])?,
-        4 => out.extend_from_slice(&[THREE_BYTES, a, b, 0])?,
-        _ => out.extend_from_slice(&[EIGHT_BYTES, a, b, 0, 0, 0, 0, 0, 0])?,
+        1 => out.push(a).unwrap(),
+        3 => out.extend_from_slice(&[TWO_BYTES, a, b]).unwrap(),
+        4 => out.extend_from_slice(&[THREE_BYTES, a, b, 0]).unwrap(),
+        _ => out.extend_from_slice(&[EIGHT_BYTES, a, b, 0, 0, 0, 0, 0, 0]).unwrap(),
     }
-    Ok(())
 }

@@ -1,6 +1,6 @@
 //! Events. MySQL Source Documentation, "Binlog Event", the page `binary_log::Log_event_type`.
 
-ghost use Rattle.std.specs.Prelude.{◌≡◌, [], ◌∷◌, drop, IfOk, IfErr, MatchResult, Some, ◌+◌, ◌<◌, ◌++◌, ◌↔◌, IsTrue, length, take, OnOk, OnErr, Err, vec_len, vec_capacity, ◌≤◌};
+ghost use Rattle.std.specs.Prelude.{◌≡◌, [], ◌∷◌, drop, IfOk, IfErr, MatchResult, Some, ◌+◌, ◌<◌, ◌++◌, ◌↔◌, IsTrue, length, OnOk, OnErr, Err, vec_len, vec_capacity, ◌≤◌};
 ghost use Rattle.std.specs.FinSet as set;
 ghost use Rattle.binlog.specs.Fault.{first_of};
 ghost use Rattle.binlog.specs.Header.{header_length, IsFramed};
@@ -9,15 +9,16 @@ ghost use Rattle.binlog.specs.Filter.{admits};
 ghost use Rattle.binlog.specs.Event.{EventValue, HasBody, IsEvent, type_fault, table_map_fault, body_fault, event_fault, gtid};
 ghost use Rattle.binlog.specs.EventView.{event_value, filter_of};
 ghost use Rattle.binlog.specs.Writing.{IsWritable, event_code, event_body, event_bytes};
+ghost use Rattle.binlog.specs.Appending.{AppendsBytes};
 ghost use Rattle.binlog.specs.declared.fault.EventFaultKind.TheVariants.{Memory};
 
-use crate::body::format::{read_format, write_format};
-use crate::body::gtid_event::{gtid_fits, read_gtid, write_gtid};
-use crate::body::query::{Query, read_query, write_query};
+use crate::body::format::{FORMAT, read_format, write_format};
+use crate::body::gtid_event::{GTID_LENGTH, gtid_fits, read_gtid, write_gtid};
+use crate::body::query::{Query, query_length, read_query, write_query};
 use crate::body::rotate::{read_rotate, rotate_fits, write_rotate};
-use crate::body::rows::{read_rows, rows_event_fits, write_rows_event};
+use crate::body::rows::{read_rows, rows_event_fits, rows_event_length, write_rows_event};
 use crate::body::rows_event::{RowsEvent, RowsKind};
-use crate::body::table_map::{TableMap, map_fits, read_names, write_table_map};
+use crate::body::table_map::{TableMap, map_fits, map_length, read_names, write_table_map};
 use crate::body::xid::{read_xid, write_xid, xid_fits};
 use crate::column::list::read_columns;
 use crate::event_type;
@@ -217,77 +218,93 @@ impl Event<'_> {
         ensures full { OnErr result (vec_capacity out.old
             < vec_len out.old + length (event_bytes (event_value self.now))) }
     {
-        let start = out.len();
-        match write_event(self, out) {
-            Ok(()) => Ok(()),
-            Err(fault) => {
-                out.truncate(start);
-                Err(fault)
-            }
-        }
+        out.reserve(event_length(self))?;
+        write_event(self, out);
+        Ok(())
     }
 }
 
-/// Appends an event. If it fails, a part of it may have been appended.
-fn write_event(event: &Event<'_>, out: &mut Vec<u8>) -> Result<(), EventFault>
+/// How many bytes an event takes.
+fn event_length(event: &Event<'_>) -> usize
     requires { IsWritable (event_value event.now) }
-    ensures ok { OnOk result (out.new.items ≡ out.old.items ++ event_bytes
-        (event_value event.now)) }
-    ensures err { OnErr result (result ≡ Err (record { kind = Memory; at = 0 })) }
-    ensures kept { OnErr result (take (length out.old.items) out.new.items ≡ out.old.items) }
-    ensures full { OnErr result (vec_capacity out.old
-        < vec_len out.old + length (event_bytes (event_value event.now))) }
+    ensures { result ≡ length (event_bytes (event_value event.now)) }
 {
-    let start = out.len();
-    out.extend_from_slice(&[0; HEADER_LENGTH])?;
-    let code = write_body(event, out)?;
-    frame(code, start, out);
-    Ok(())
+    HEADER_LENGTH + body_length(event)
 }
 
-/// Appends the body of an event, or a part of it, and returns the event's type.
-fn write_body(event: &Event<'_>, out: &mut Vec<u8>) -> Result<u8, EventFault>
+/// How many bytes the body of an event takes.
+fn body_length(event: &Event<'_>) -> usize
     requires { IsWritable (event_value event.now) }
-    ensures code { IfOk result (λ code. code ≡ event_code (event_value event.now)) }
-    ensures ok { OnOk result (out.new.items ≡ out.old.items ++ event_body (event_value event.now)) }
-    ensures err { OnErr result (result ≡ Err (record { kind = Memory; at = 0 })) }
-    ensures kept { OnErr result (take (length out.old.items) out.new.items ≡ out.old.items) }
-    ensures full { OnErr result (vec_capacity out.old
-        < vec_len out.old + length (event_body (event_value event.now))) }
-    ensures capacity { vec_capacity out.old ≤ vec_capacity out.new }
+    ensures { result ≡ length (event_body (event_value event.now)) }
+{
+    match event {
+        Event::Format => FORMAT.len(),
+        Event::Begin => query_length(Query::Begin),
+        Event::Commit => query_length(Query::Commit),
+        Event::Neutral => 0,
+        Event::Stop => 0,
+        Event::Rotate { name, .. } => 8 + name.len(),
+        Event::Gtid(_) => GTID_LENGTH,
+        Event::TableMap(map) => map_length(map),
+        Event::OtherMap { .. } => 0,
+        Event::Rows(rows) => rows_event_length(rows),
+        Event::Xid { .. } => 8,
+    }
+}
+
+/// Appends an event.
+fn write_event(event: &Event<'_>, out: &mut Vec<u8>)
+    requires writable { IsWritable (event_value event.now) }
+    requires room { vec_len out.old + length (event_bytes (event_value event.now))
+        ≤ vec_capacity out.old }
+    ensures { out.new.items ≡ out.old.items ++ event_bytes (event_value event.now) }
+{
+    let start = out.len();
+    out.extend_from_slice(&[0; HEADER_LENGTH]).unwrap();
+    let code = write_body(event, out);
+    frame(code, start, out);
+}
+
+/// Appends the body of an event, and returns the event's type.
+fn write_body(event: &Event<'_>, out: &mut Vec<u8>) -> u8
+    requires writable { IsWritable (event_value event.now) }
+    requires room { vec_len out.old + length (event_body (event_value event.now))
+        ≤ vec_capacity out.old }
+    ensures code { result ≡ event_code (event_value event.now) }
+    ensures appends { AppendsBytes out.old out.new (event_body (event_value event.now)) }
 {
     match event {
         Event::Format => {
-            write_format(out)?;
-            Ok(event_type::FORMAT_DESCRIPTION)
+            write_format(out);
+            event_type::FORMAT_DESCRIPTION
         }
         Event::Begin => {
-            write_query(Query::Begin, out)?;
-            Ok(event_type::QUERY)
+            write_query(Query::Begin, out);
+            event_type::QUERY
         }
         Event::Commit => {
-            write_query(Query::Commit, out)?;
-            Ok(event_type::QUERY)
+            write_query(Query::Commit, out);
+            event_type::QUERY
         }
-        Event::Neutral => Ok(event_type::IGNORABLE),
-        Event::Stop => Ok(event_type::STOP),
+        Event::Neutral => event_type::IGNORABLE,
+        Event::Stop => event_type::STOP,
         Event::Rotate { position, name } => {
-            write_rotate(*position, name, out)?;
-            Ok(event_type::ROTATE)
+            write_rotate(*position, name, out);
+            event_type::ROTATE
         }
         Event::Gtid(gtid) => {
-            write_gtid(*gtid, out)?;
-            Ok(event_type::GTID)
+            write_gtid(*gtid, out);
+            event_type::GTID
         }
         Event::TableMap(map) => {
-            write_table_map(map, out)?;
-            Ok(event_type::TABLE_MAP)
+            write_table_map(map, out);
+            event_type::TABLE_MAP
         }
-        Event::OtherMap { .. } => Ok(event_type::TABLE_MAP),
+        Event::OtherMap { .. } => event_type::TABLE_MAP,
         Event::Rows(rows) => write_rows_event(rows, out),
         Event::Xid { number } => {
-            write_xid(*number, out)?;
-            Ok(event_type::XID)
+            write_xid(*number, out);
+            event_type::XID
         }
     }
 }

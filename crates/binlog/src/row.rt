@@ -1,17 +1,17 @@
 //! Rows. MySQL Source Documentation, "Binlog Event", the page `binary_log::Rows_event`.
 
-ghost use Rattle.std.specs.Prelude.{◌≡◌, ℕ, false, ◌≤◌, ◌++◌, List, length, take, IfOk, IfErr, MatchResult, Err, IsTrue, OnOk, OnErr, ◌<◌, ◌+◌, vec_len, vec_capacity};
+ghost use Rattle.std.specs.Prelude.{◌≡◌, ℕ, false, ◌≤◌, List, length, IfOk, IfErr, MatchResult, Err, IsTrue, ◌+◌, vec_len, vec_capacity};
 ghost use Rattle.std.specs.Iterator.{YieldsFirstBy, item_count};
 ghost use Rattle.binlog.specs.Cell.{CellValue, cell_value, owned_values};
 ghost use Rattle.binlog.specs.Row.{kinds, is_set, IsRow, row_end};
 ghost use Rattle.binlog.specs.RowsWritten.{value_fits, row_fits, values_bytes, row_bytes};
-ghost use Rattle.binlog.specs.declared.fault.EventFaultKind.TheVariants.{Memory};
+ghost use Rattle.binlog.specs.Appending.{AppendsBytes};
+ghost use Rattle.binlog.specs.Appending.{IsCapped};
 
 use crate::bitmap::{has_set, is_set, write_bitmap};
 use crate::cell::{Cell, OwnedCell};
 use crate::column::kind::ColumnType;
-use crate::column::value::{read_value, shape_of, value_end, value_fits, write_value};
-use crate::fault::EventFault;
+use crate::column::value::{read_value, shape_of, value_end, value_fits, value_length, write_value};
 use std::marker::Model;
 
 /// A row image. It borrows from the event's bytes and takes no memory. In contracts it is the list of its cells.
@@ -171,43 +171,39 @@ pub(crate) fn row_fits(types: &[ColumnType], cells: &[OwnedCell]) -> bool
     true
 }
 
-/// Appends the row of the cells, or a part of it: the bitmap of the null cells, and the values of the others.
-pub(crate) fn write_row(
-    types: &[ColumnType],
-    cells: &[OwnedCell],
-    out: &mut Vec<u8>,
-) -> Result<(), EventFault>
+/// How many bytes the row of the cells takes, or `usize::MAX` if that is less.
+pub(crate) fn row_length(types: &[ColumnType], cells: &[OwnedCell]) -> usize
     requires { IsTrue (row_fits (kinds types.now) (owned_values cells.now)) }
-    ensures ok { OnOk result (out.new.items ≡ out.old.items ++ row_bytes (kinds types.now)
-        (owned_values cells.now)) }
-    ensures err { OnErr result (result ≡ Err (record { kind = Memory; at = 0 })) }
-    ensures kept { OnErr result (take (length out.old.items) out.new.items ≡ out.old.items) }
-    ensures full { OnErr result (vec_capacity out.old
-        < vec_len out.old + length (row_bytes (kinds types.now) (owned_values cells.now))) }
-    ensures capacity { vec_capacity out.old ≤ vec_capacity out.new }
+    ensures { IsCapped result (length (row_bytes (kinds types.now) (owned_values cells.now))) }
 {
-    write_bitmap(cells, out)?;
-    write_values(types, cells, out)
+    let mut sum = cells.len().div_ceil(8);
+    for i in 0..types.len() {
+        sum = sum.saturating_add(value_length(shape_of(types[i]), &cells[i]));
+    }
+    sum
 }
 
-/// Appends the values of the cells that are not null, or a part of them.
-fn write_values(
-    types: &[ColumnType],
-    cells: &[OwnedCell],
-    out: &mut Vec<u8>,
-) -> Result<(), EventFault>
+/// Appends the row of the cells: the bitmap of the null cells, and the values of the others.
+pub(crate) fn write_row(types: &[ColumnType], cells: &[OwnedCell], out: &mut Vec<u8>)
+    requires fit { IsTrue (row_fits (kinds types.now) (owned_values cells.now)) }
+    requires room { vec_len out.old + length (row_bytes (kinds types.now) (owned_values cells.now))
+        ≤ vec_capacity out.old }
+    ensures { AppendsBytes out.old out.new (row_bytes (kinds types.now) (owned_values cells.now)) }
+{
+    write_bitmap(cells, out);
+    write_values(types, cells, out);
+}
+
+/// Appends the values of the cells that are not null.
+fn write_values(types: &[ColumnType], cells: &[OwnedCell], out: &mut Vec<u8>)
     requires as_many { length cells.now ≡ length types.now }
     requires fit { IsTrue (row_fits (kinds types.now) (owned_values cells.now)) }
-    ensures ok { OnOk result (out.new.items ≡ out.old.items ++ values_bytes (kinds types.now)
+    requires room { vec_len out.old
+        + length (values_bytes (kinds types.now) (owned_values cells.now)) ≤ vec_capacity out.old }
+    ensures { AppendsBytes out.old out.new (values_bytes (kinds types.now)
         (owned_values cells.now)) }
-    ensures err { OnErr result (result ≡ Err (record { kind = Memory; at = 0 })) }
-    ensures kept { OnErr result (take (length out.old.items) out.new.items ≡ out.old.items) }
-    ensures full { OnErr result (vec_capacity out.old
-        < vec_len out.old + length (values_bytes (kinds types.now) (owned_values cells.now))) }
-    ensures capacity { vec_capacity out.old ≤ vec_capacity out.new }
 {
     for i in 0..types.len() {
-        write_value(shape_of(types[i]), &cells[i], out)?;
+        write_value(shape_of(types[i]), &cells[i], out);
     }
-    Ok(())
 }

@@ -1,16 +1,15 @@
 //! One change of a row. MySQL Source Documentation, "Binlog Event", the page `binary_log::Rows_event`.
 
-ghost use Rattle.std.specs.Prelude.{◌+◌, ◌<◌, ◌≤◌, ◌^◌, length, ◌≡◌, ◌++◌, take, IsTrue, OnOk, OnErr, Err, vec_len, vec_capacity};
+ghost use Rattle.std.specs.Prelude.{◌+◌, ◌<◌, ◌≤◌, ◌^◌, length, ◌≡◌, IsTrue, vec_len, vec_capacity};
 ghost use Rattle.binlog.specs.Row.{kinds};
 ghost use Rattle.binlog.specs.RowsView.{owned_pair};
 ghost use Rattle.binlog.specs.RowsWritten.{pair_bytes, row_fits, pair_fits};
-ghost use Rattle.binlog.specs.declared.fault.EventFaultKind.TheVariants.{Memory};
+ghost use Rattle.binlog.specs.Appending.{AppendsBytes, IsCapped};
 
 use crate::body::rows_event::RowsKind;
 use crate::cell::OwnedCell;
 use crate::column::kind::ColumnType;
-use crate::fault::EventFault;
-use crate::row::{Row, row_fits, write_row};
+use crate::row::{Row, row_fits, row_length, write_row};
 
 /// One row change: the row before it, the row after it, or both.
 #[derive(Debug, Drop)]
@@ -91,28 +90,37 @@ pub(crate) fn pair_fits(kind: RowsKind, types: &[ColumnType], pair: &OwnedPair) 
     }
 }
 
-/// Appends the rows of a pair. If it fails, a part of them may have been appended.
+/// How many bytes the rows of a pair take, or `usize::MAX` if that is less.
+pub(crate) fn pair_length(kind: RowsKind, types: &[ColumnType], pair: &OwnedPair) -> usize
+    requires { IsTrue (pair_fits kind (kinds types.now) (owned_pair pair.now)) }
+    ensures { IsCapped result (length (pair_bytes (kinds types.now) (owned_pair pair.now))) }
+{
+    match pair {
+        OwnedPair::Insert { after } => row_length(types, after),
+        OwnedPair::Delete { before } => row_length(types, before),
+        OwnedPair::Update { before, after } => row_length(types, before)
+            .saturating_add(row_length(types, after)),
+    }
+}
+
+/// Appends the rows of a pair.
 pub(crate) fn write_pair(
     kind: RowsKind,
     types: &[ColumnType],
     pair: &OwnedPair,
     out: &mut Vec<u8>,
-) -> Result<(), EventFault>
-    requires { IsTrue (pair_fits kind (kinds types.now) (owned_pair pair.now)) }
-    ensures ok { OnOk result (out.new.items ≡ out.old.items ++ pair_bytes (kinds types.now)
-        (owned_pair pair.now)) }
-    ensures err { OnErr result (result ≡ Err (record { kind = Memory; at = 0 })) }
-    ensures kept { OnErr result (take (length out.old.items) out.new.items ≡ out.old.items) }
-    ensures full { OnErr result (vec_capacity out.old
-        < vec_len out.old + length (pair_bytes (kinds types.now) (owned_pair pair.now))) }
-    ensures capacity { vec_capacity out.old ≤ vec_capacity out.new }
+)
+    requires fit { IsTrue (pair_fits kind (kinds types.now) (owned_pair pair.now)) }
+    requires room { vec_len out.old + length (pair_bytes (kinds types.now) (owned_pair pair.now))
+        ≤ vec_capacity out.old }
+    ensures { AppendsBytes out.old out.new (pair_bytes (kinds types.now) (owned_pair pair.now)) }
 {
     match pair {
         OwnedPair::Insert { after } => write_row(types, after, out),
         OwnedPair::Delete { before } => write_row(types, before, out),
         OwnedPair::Update { before, after } => {
-            write_row(types, before, out)?;
-            write_row(types, after, out)
+            write_row(types, before, out);
+            write_row(types, after, out);
         }
     }
 }

@@ -1,16 +1,17 @@
 //! The rows of a rows event. MySQL Source Documentation, "Binlog Event", the page `binary_log::Rows_event`.
 
-ghost use Rattle.std.specs.Prelude.{◌+◌, ◌<◌, ◌≤◌, ◌^◌, length, ◌≡◌, ◌++◌, ◌↔◌, take, IsTrue, OnOk, OnErr, Err, vec_len, vec_capacity};
+ghost use Rattle.std.specs.Prelude.{◌+◌, ◌<◌, ◌≤◌, ◌^◌, length, ◌≡◌, ◌++◌, ◌↔◌, IsTrue, OnOk, OnErr, Err, vec_len, vec_capacity};
 ghost use Rattle.binlog.specs.Row.{kinds};
 ghost use Rattle.binlog.specs.RowsView.{owned_pairs};
 ghost use Rattle.binlog.specs.RowsWritten.{HaveRows, rows_bytes, pair_fits, pairs_fit};
+ghost use Rattle.binlog.specs.Appending.{AppendsBytes, IsCapped};
 ghost use Rattle.binlog.specs.declared.fault.EventFaultKind.TheVariants.{Memory};
 
 use crate::body::rows_event::{RowsEvent, RowsKind};
 use crate::body::table_map::TableDef;
 use crate::column::kind::ColumnType;
 use crate::fault::{EventFault, EventFaultKind};
-use crate::row_pair::{OwnedPair, RowPair, pair_fits, write_pair};
+use crate::row_pair::{OwnedPair, RowPair, pair_fits, pair_length, write_pair};
 use std::marker::Model;
 
 /// An iterator over the rows of an event. The last item may be a fault. It takes no memory. In contracts it is the list
@@ -164,33 +165,31 @@ pub fn write_rows(
     ensures full { OnErr result (vec_capacity out.old
         < vec_len out.old + length (rows_bytes (kinds types.now) (owned_pairs pairs.now))) }
 {
-    let start = out.len();
-    match write_pairs(kind, types, pairs, out) {
-        Ok(()) => Ok(()),
-        Err(fault) => {
-            out.truncate(start);
-            Err(fault)
-        }
-    }
+    out.reserve(rows_length(kind, types, pairs))?;
+    write_pairs(kind, types, pairs, out);
+    Ok(())
 }
 
-/// Appends the rows of the pairs. If it fails, a part of them may have been appended.
-fn write_pairs(
-    kind: RowsKind,
-    types: &[ColumnType],
-    pairs: &[OwnedPair],
-    out: &mut Vec<u8>,
-) -> Result<(), EventFault>
+/// How many bytes the rows of the pairs take, or `usize::MAX` if that is less.
+fn rows_length(kind: RowsKind, types: &[ColumnType], pairs: &[OwnedPair]) -> usize
     requires { IsTrue (pairs_fit kind (kinds types.now) (owned_pairs pairs.now)) }
-    ensures ok { OnOk result (out.new.items ≡ out.old.items ++ rows_bytes (kinds types.now)
-        (owned_pairs pairs.now)) }
-    ensures err { OnErr result (result ≡ Err (record { kind = Memory; at = 0 })) }
-    ensures kept { OnErr result (take (length out.old.items) out.new.items ≡ out.old.items) }
-    ensures full { OnErr result (vec_capacity out.old
-        < vec_len out.old + length (rows_bytes (kinds types.now) (owned_pairs pairs.now))) }
+    ensures { IsCapped result (length (rows_bytes (kinds types.now) (owned_pairs pairs.now))) }
+{
+    let mut sum: usize = 0;
+    for pair in pairs {
+        sum = sum.saturating_add(pair_length(kind, types, pair));
+    }
+    sum
+}
+
+/// Appends the rows of the pairs.
+fn write_pairs(kind: RowsKind, types: &[ColumnType], pairs: &[OwnedPair], out: &mut Vec<u8>)
+    requires fit { IsTrue (pairs_fit kind (kinds types.now) (owned_pairs pairs.now)) }
+    requires room { vec_len out.old + length (rows_bytes (kinds types.now) (owned_pairs pairs.now))
+        ≤ vec_capacity out.old }
+    ensures { AppendsBytes out.old out.new (rows_bytes (kinds types.now) (owned_pairs pairs.now)) }
 {
     for pair in pairs {
-        write_pair(kind, types, pair, out)?;
+        write_pair(kind, types, pair, out);
     }
-    Ok(())
 }

@@ -1,12 +1,12 @@
 //! FORMAT_DESCRIPTION: the format of the events that follow it. MySQL Source Documentation, "Binlog Event", the page
 //! `binary_log::Format_description_event`.
 
-ghost use Rattle.std.specs.Prelude.{◌≡◌, ◌≤◌, length, drop, IfErr, IfSome, IfNone, OnOk, IsOk, Ok, Some, None, ◌++◌, take, OnErr, Err, ◌<◌, ◌+◌, vec_len, vec_capacity};
+ghost use Rattle.std.specs.Prelude.{◌≡◌, ◌≤◌, length, drop, IfErr, IfSome, IfNone, OnOk, IsOk, Ok, Some, None, ◌+◌, vec_len, vec_capacity};
 ghost use Rattle.binlog.specs.Header.{header_length};
 ghost use Rattle.binlog.specs.Body.{IsFormat, format_fault, length_refusals, read_lengths};
 ghost use Rattle.binlog.specs.Fault.{first_of};
 ghost use Rattle.binlog.specs.Writing.{format_body};
-ghost use Rattle.binlog.specs.declared.fault.EventFaultKind.TheVariants.{Memory};
+ghost use Rattle.binlog.specs.Appending.{AppendsBytes};
 
 use crate::event_type;
 use crate::fault::{EventFault, EventFaultKind};
@@ -25,7 +25,7 @@ const LENGTHS: [(usize, u8); 6] = [
 
 /// The body that is written: version 4, server 8.0.36, and the post-header lengths of 35 types, which are 0 for
 /// types that are not supported.
-const FORMAT: &[u8] = &[
+pub(crate) const FORMAT: &[u8] = &[
     4, 0, 56, 46, 48, 46, 51, 54, 0, 0, 0, 0, 0, 0, 0, 0, 0, 0, 0, 0, 0, 0, 0, 0, 0, 0, 0, 0, 0, 0,
     0, 0, 0, 0, 0, 0, 0, 0, 0, 0, 0, 0, 0, 0, 0, 0, 0, 0, 0, 0, 0, 0, 0, 0, 0, 0, 19, 0, 13, 0, 8,
     0, 0, 0, 0, 0, 0, 0, 0, 0, 0, 0, 0, 0, 0, 8, 0, 0, 0, 0, 0, 0, 0, 0, 0, 0, 10, 10, 10, 0, 0, 0,
@@ -83,14 +83,10 @@ fn wrong_length(bytes: &[u8]) -> Option<usize>
     None
 }
 
-/// Appends the body of a format description, or nothing.
-pub(crate) fn write_format(out: &mut Vec<u8>) -> Result<(), EventFault>
-    ensures ok { OnOk result (out.new.items ≡ out.old.items ++ format_body) }
-    ensures err { OnErr result (result ≡ Err (record { kind = Memory; at = 0 })) }
-    ensures kept { OnErr result (take (length out.old.items) out.new.items ≡ out.old.items) }
-    ensures full { OnErr result (vec_capacity out.old < vec_len out.old + length format_body) }
-    ensures capacity { vec_capacity out.old ≤ vec_capacity out.new }
+/// Appends the body of a format description.
+pub(crate) fn write_format(out: &mut Vec<u8>)
+    requires { vec_len out.old + length format_body ≤ vec_capacity out.old }
+    ensures { AppendsBytes out.old out.new format_body }
 {
-    out.extend_from_slice(FORMAT)?;
-    Ok(())
+    out.extend_from_slice(FORMAT).unwrap();
 }

@@ -1,13 +1,13 @@
 //! GTID: the GTID of the transaction that begins. MySQL Source Documentation, "Binlog Event", the page
 //! `binary_log::Gtid_event`.
 
-ghost use Rattle.std.specs.Prelude.{◌≡◌, ℕ, List, drop, IfOk, IfErr, Ok, Some, None, ◌↔◌, IsTrue, ◌++◌, length, take, OnOk, OnErr, Err, ◌<◌, ◌+◌, vec_len, vec_capacity, ◌≤◌};
+ghost use Rattle.std.specs.Prelude.{◌≡◌, ℕ, List, drop, IfOk, IfErr, Ok, Some, None, ◌↔◌, IsTrue, length, ◌+◌, vec_len, vec_capacity, ◌≤◌};
 ghost use Rattle.binlog.specs.Header.{header_length};
 ghost use Rattle.binlog.specs.Body.{IsGtidBody, gtid_fault};
 ghost use Rattle.binlog.specs.Event.{gtid};
 ghost use Rattle.binlog.specs.Writing.{IsWritable};
 ghost use Rattle.binlog.specs.Writing.{gtid_body};
-ghost use Rattle.binlog.specs.declared.fault.EventFaultKind.TheVariants.{Memory};
+ghost use Rattle.binlog.specs.Appending.{AppendsBytes};
 
 use crate::fault::{EventFault, EventFaultKind};
 use byteorder::{ByteOrder, LittleEndian};
@@ -45,17 +45,15 @@ pub(crate) fn gtid_fits(id: Gtid) -> bool
     true
 }
 
-/// Appends the body of a GTID event, or a part of it.
-pub(crate) fn write_gtid(id: Gtid, out: &mut Vec<u8>) -> Result<(), EventFault>
-    ensures ok { OnOk result (out.new.items ≡ out.old.items ++ gtid_body id.source id.number) }
-    ensures err { OnErr result (result ≡ Err (record { kind = Memory; at = 0 })) }
-    ensures kept { OnErr result (take (length out.old.items) out.new.items ≡ out.old.items) }
-    ensures full { OnErr result (vec_capacity out.old
-        < vec_len out.old + length (gtid_body id.source id.number)) }
-    ensures capacity { vec_capacity out.old ≤ vec_capacity out.new }
+/// How many bytes the body of a GTID event takes.
+pub(crate) const GTID_LENGTH: usize = 25;
+
+/// Appends the body of a GTID event.
+pub(crate) fn write_gtid(id: Gtid, out: &mut Vec<u8>)
+    requires { vec_len out.old + length (gtid_body id.source id.number) ≤ vec_capacity out.old }
+    ensures { AppendsBytes out.old out.new (gtid_body id.source id.number) }
 {
-    out.push(0)?;
-    out.extend_from_slice(&id.source)?;
-    out.extend_from_slice(&id.number.to_le_bytes())?;
-    Ok(())
+    out.push(0).unwrap();
+    out.extend_from_slice(&id.source).unwrap();
+    out.extend_from_slice(&id.number.to_le_bytes()).unwrap();
 }

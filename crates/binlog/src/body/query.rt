@@ -1,11 +1,11 @@
 //! QUERY: a statement. MySQL Source Documentation, "Binlog Event", the page `binary_log::Query_event`.
 
-ghost use Rattle.std.specs.Prelude.{◌≡◌, ◌≤◌, length, drop, IfOk, IfErr, Ok, Some, ◌++◌, take, OnOk, OnErr, Err, ◌<◌, ◌+◌, vec_len, vec_capacity};
+ghost use Rattle.std.specs.Prelude.{◌≡◌, ◌≤◌, length, drop, IfOk, IfErr, Ok, Some, ◌+◌, vec_len, vec_capacity};
 ghost use Rattle.binlog.specs.Header.{header_length};
 ghost use Rattle.binlog.specs.declared.body.query.Query.{Query};
 ghost use Rattle.binlog.specs.Body.{IsQuery, query_fault, statement, text_place};
 ghost use Rattle.binlog.specs.Writing.{query_body};
-ghost use Rattle.binlog.specs.declared.fault.EventFaultKind.TheVariants.{Memory};
+ghost use Rattle.binlog.specs.Appending.{AppendsBytes};
 
 use crate::fault::{EventFault, EventFaultKind};
 use byteorder::{ByteOrder, LittleEndian};
@@ -75,19 +75,24 @@ fn read_text(bytes: &[u8]) -> Result<usize, EventFault>
 /// What is written before a statement's text: zero for thread, time, schema, error and status, and no schema's name.
 const FRONT: &[u8] = &[0; 14];
 
-/// Appends the body of a QUERY event with this text, or a part of it.
-pub(crate) fn write_query(query: Query, out: &mut Vec<u8>) -> Result<(), EventFault>
-    ensures ok { OnOk result (out.new.items ≡ out.old.items ++ query_body (statement query)) }
-    ensures err { OnErr result (result ≡ Err (record { kind = Memory; at = 0 })) }
-    ensures kept { OnErr result (take (length out.old.items) out.new.items ≡ out.old.items) }
-    ensures full { OnErr result (vec_capacity out.old
-        < vec_len out.old + length (query_body (statement query))) }
-    ensures capacity { vec_capacity out.old ≤ vec_capacity out.new }
+/// How many bytes the body of a QUERY event with this text takes.
+pub(crate) fn query_length(query: Query) -> usize
+    ensures { result ≡ length (query_body (statement query)) }
 {
-    out.extend_from_slice(FRONT)?;
     match query {
-        Query::Begin => out.extend_from_slice(BEGIN)?,
-        Query::Commit => out.extend_from_slice(COMMIT)?,
+        Query::Begin => FRONT.len() + BEGIN.len(),
+        Query::Commit => FRONT.len() + COMMIT.len(),
     }
-    Ok(())
+}
+
+/// Appends the body of a QUERY event with this text.
+pub(crate) fn write_query(query: Query, out: &mut Vec<u8>)
+    requires { vec_len out.old + length (query_body (statement query)) ≤ vec_capacity out.old }
+    ensures { AppendsBytes out.old out.new (query_body (statement query)) }
+{
+    out.extend_from_slice(FRONT).unwrap();
+    match query {
+        Query::Begin => out.extend_from_slice(BEGIN).unwrap(),
+        Query::Commit => out.extend_from_slice(COMMIT).unwrap(),
+    }
 }

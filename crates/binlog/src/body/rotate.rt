@@ -1,13 +1,13 @@
 //! ROTATE: the log goes on in another file. MySQL Source Documentation, "Binlog Event", the page
 //! `binary_log::Rotate_event`.
 
-ghost use Rattle.std.specs.Prelude.{◌≡◌, ℕ, List, drop, IfOk, IfErr, Ok, Some, ◌<◌, ◌↔◌, IsTrue, ◌++◌, length, take, OnOk, OnErr, Err, ◌+◌, vec_len, vec_capacity, ◌≤◌};
+ghost use Rattle.std.specs.Prelude.{◌≡◌, ℕ, List, drop, IfOk, IfErr, Ok, Some, ◌↔◌, IsTrue, ◌++◌, length, ◌+◌, vec_len, vec_capacity, ◌≤◌};
 ghost use Rattle.binlog.specs.Body.{IsRotate, rotate_fault};
 ghost use Rattle.binlog.specs.Event.{rotate};
 ghost use Rattle.binlog.specs.Writing.{IsWritable};
 ghost use Rattle.byteorder.specs.Endian.{little_bytes};
 ghost use Rattle.binlog.specs.Header.{header_length};
-ghost use Rattle.binlog.specs.declared.fault.EventFaultKind.TheVariants.{Memory};
+ghost use Rattle.binlog.specs.Appending.{AppendsBytes};
 
 use crate::fault::EventFault;
 use byteorder::{ByteOrder, LittleEndian};
@@ -35,17 +35,11 @@ pub(crate) fn rotate_fits(position: u64, name: &[u8]) -> bool
     name.len() < (1 << 32) - 27
 }
 
-/// Appends the body of a rotation, or a part of it.
-pub(crate) fn write_rotate(position: u64, name: &[u8], out: &mut Vec<u8>) -> Result<(), EventFault>
-    ensures ok { OnOk result (out.new.items ≡ out.old.items ++
-        (little_bytes 8 position ++ name.now)) }
-    ensures err { OnErr result (result ≡ Err (record { kind = Memory; at = 0 })) }
-    ensures kept { OnErr result (take (length out.old.items) out.new.items ≡ out.old.items) }
-    ensures full { OnErr result (vec_capacity out.old
-        < vec_len out.old + length (little_bytes 8 position ++ name.now)) }
-    ensures capacity { vec_capacity out.old ≤ vec_capacity out.new }
+/// Appends the body of a rotation.
+pub(crate) fn write_rotate(position: u64, name: &[u8], out: &mut Vec<u8>)
+    requires { vec_len out.old + length (little_bytes 8 position ++ name.now) ≤ vec_capacity out.old }
+    ensures { AppendsBytes out.old out.new (little_bytes 8 position ++ name.now) }
 {
-    out.extend_from_slice(&position.to_le_bytes())?;
-    out.extend_from_slice(name)?;
-    Ok(())
+    out.extend_from_slice(&position.to_le_bytes()).unwrap();
+    out.extend_from_slice(name).unwrap();
 }

@@ -1,7 +1,7 @@
 //! WRITE_ROWS, UPDATE_ROWS and DELETE_ROWS, up to their rows. MySQL Source Documentation, "Binlog Event", the page
 //! `binary_log::Rows_event`.
 
-ghost use Rattle.std.specs.Prelude.{◌≡◌, ◌+◌, ◌<◌, ◌≤◌, ◌^◌, length, drop, IfOk, IfErr, MatchResult, Some, None, ◌-◌, ◌++◌, ◌∷◌, ◌↔◌, take, replicate, OnOk, OnErr, IfSome, IsSome, Err, IsTrue, vec_len, vec_capacity};
+ghost use Rattle.std.specs.Prelude.{◌≡◌, ◌+◌, ◌<◌, ◌≤◌, ◌^◌, length, drop, IfOk, IfErr, MatchResult, Some, None, ◌-◌, ◌++◌, ◌∷◌, ◌↔◌, IfSome, IsSome, IsTrue, vec_len, vec_capacity};
 ghost use Rattle.binlog.specs.Rows.{RowsValue, IsRows, presents_size, present_fault, presents_fault, rows_fault, rows_code};
 ghost use Rattle.binlog.specs.Row.{bitmap_size};
 ghost use Rattle.binlog.specs.RowsView.{rows_value};
@@ -10,7 +10,7 @@ ghost use Rattle.binlog.specs.Table.{most_columns};
 ghost use Rattle.binlog.specs.Header.{header_length};
 ghost use Rattle.binlog.specs.Event.{rows};
 ghost use Rattle.binlog.specs.Writing.{stmt_end, IsWritable, HasRowsBody, plain_rows, rows_head, presents_bytes, rows_body};
-ghost use Rattle.binlog.specs.declared.fault.EventFaultKind.TheVariants.{Memory};
+ghost use Rattle.binlog.specs.Appending.{AppendsBytes};
 
 use crate::bitmap::{is_set, write_full_bitmap};
 use crate::body::rows_event::{RowsEvent, RowsKind};
@@ -18,6 +18,7 @@ use crate::column::list::MOST_COLUMNS;
 use crate::count::{count_width, read_count, write_padded_count};
 use crate::event_type;
 use crate::fault::{EventFault, EventFaultKind};
+use crate::header::HEADER_LENGTH;
 use byteorder::{ByteOrder, LittleEndian};
 use wire::lenenc::MOST_IN_ONE_BYTE;
 
@@ -202,91 +203,64 @@ impl RowsKind {
     }
 }
 
-/// Appends the body of a rows event that ends its statement, or a part of it, and returns the event's type.
-pub(crate) fn write_rows_event(rows: &RowsEvent<'_>, out: &mut Vec<u8>) -> Result<u8, EventFault>
+/// How many bytes the body of a rows event takes.
+pub(crate) fn rows_event_length(rows: &RowsEvent<'_>) -> usize
     requires { HasRowsBody (rows_value rows.now) }
-    ensures code { IfOk result (λ code. code ≡ rows_code rows.now.kind) }
-    ensures ok { OnOk result (out.new.items ≡ out.old.items ++ rows_body (rows_value rows.now)) }
-    ensures err { OnErr result (result ≡ Err (record { kind = Memory; at = 0 })) }
-    ensures kept { OnErr result (take (length out.old.items) out.new.items ≡ out.old.items) }
-    ensures full { OnErr result (vec_capacity out.old
-        < vec_len out.old + length (rows_body (rows_value rows.now))) }
-    ensures capacity { vec_capacity out.old ≤ vec_capacity out.new }
+    ensures { result ≡ length (rows_body (rows_value rows.now)) }
 {
-    write_head(rows, out)?;
-    let width = rows.bytes_at - rows.columns_at - presents_size(rows.kind, rows.columns);
-    write_padded_count(width, rows.columns, out)?;
-    write_presents(rows.kind, rows.columns, out)?;
-    out.extend_from_slice(rows.bytes)?;
-    Ok(rows.kind.code())
+    rows.bytes_at - HEADER_LENGTH + rows.bytes.len()
 }
 
-/// Appends what comes before the number of columns, or a part of it. The extra data is zeros.
-fn write_head(rows: &RowsEvent<'_>, out: &mut Vec<u8>) -> Result<(), EventFault>
-    requires { HasRowsBody (rows_value rows.now) }
-    ensures ok { OnOk result (out.new.items ≡ out.old.items ++ rows_head (rows_value rows.now)) }
-    ensures err { OnErr result (result ≡ Err (record { kind = Memory; at = 0 })) }
-    ensures kept { OnErr result (take (length out.old.items) out.new.items ≡ out.old.items) }
-    ensures full { OnErr result (vec_capacity out.old
-        < vec_len out.old + length (rows_head (rows_value rows.now))) }
-    ensures capacity { vec_capacity out.old ≤ vec_capacity out.new }
+/// Appends the body of a rows event that ends its statement, and returns the event's type.
+pub(crate) fn write_rows_event(rows: &RowsEvent<'_>, out: &mut Vec<u8>) -> u8
+    requires has_body { HasRowsBody (rows_value rows.now) }
+    requires room { vec_len out.old + length (rows_body (rows_value rows.now)) ≤ vec_capacity out.old }
+    ensures code { result ≡ rows_code rows.now.kind }
+    ensures appends { AppendsBytes out.old out.new (rows_body (rows_value rows.now)) }
+{
+    write_head(rows, out);
+    let width = rows.bytes_at - rows.columns_at - presents_size(rows.kind, rows.columns);
+    write_padded_count(width, rows.columns, out);
+    write_presents(rows.kind, rows.columns, out);
+    out.extend_from_slice(rows.bytes).unwrap();
+    rows.kind.code()
+}
+
+/// Appends what comes before the number of columns. The extra data is zeros.
+fn write_head(rows: &RowsEvent<'_>, out: &mut Vec<u8>)
+    requires has_body { HasRowsBody (rows_value rows.now) }
+    requires room { vec_len out.old + length (rows_head (rows_value rows.now)) ≤ vec_capacity out.old }
+    ensures { AppendsBytes out.old out.new (rows_head (rows_value rows.now)) }
 {
     let extra = rows.columns_at - 29;
-    write_front(rows.id, extra, out)?;
-    write_zeros(extra, out)?;
-    Ok(())
+    write_front(rows.id, extra, out);
+    out.resize(out.len() + extra, 0).unwrap();
 }
 
 /// Appends a table's number, the flag that the event ends its statement, and the length of the extra data.
-fn write_front(id: u64, extra: usize, out: &mut Vec<u8>) -> Result<(), EventFault>
-    requires { extra ≤ MOST_EXTRA }
-    ensures ok { OnOk result (out.new.items ≡ out.old.items ++
-        (little_bytes 6 id ++ stmt_end ∷ 0 ∷ little_bytes 2 (2 + extra))) }
-    ensures err { OnErr result (result ≡ Err (record { kind = Memory; at = 0 })) }
-    ensures kept { OnErr result (take (length out.old.items) out.new.items ≡ out.old.items) }
-    ensures full { OnErr result (vec_capacity out.old
-        < vec_len out.old + length (little_bytes 6 id ++ stmt_end ∷ 0 ∷ little_bytes 2
-        (2 + extra))) }
-    ensures capacity { vec_capacity out.old ≤ vec_capacity out.new }
+fn write_front(id: u64, extra: usize, out: &mut Vec<u8>)
+    requires fits { extra ≤ MOST_EXTRA }
+    requires room { vec_len out.old + 10 ≤ vec_capacity out.old }
+    ensures { AppendsBytes out.old out.new
+        (little_bytes 6 id ++ stmt_end ∷ 0 ∷ little_bytes 2 (2 + extra)) }
 {
     let [a, b, c, d, e, f, ..] = id.to_le_bytes();
     let [low, high] = ((2 + extra) as u16).to_le_bytes();
-    out.extend_from_slice(&[a, b, c, d, e, f, STMT_END, 0, low, high])?;
-    Ok(())
+    out.extend_from_slice(&[a, b, c, d, e, f, STMT_END, 0, low, high]).unwrap();
 }
 
-/// Appends n zeros, or some of them.
-fn write_zeros(n: usize, out: &mut Vec<u8>) -> Result<(), EventFault>
-    ensures ok { OnOk result (out.new.items ≡ out.old.items ++ replicate n 0) }
-    ensures err { OnErr result (result ≡ Err (record { kind = Memory; at = 0 })) }
-    ensures kept { OnErr result (take (length out.old.items) out.new.items ≡ out.old.items) }
-    ensures full { OnErr result (vec_capacity out.old < vec_len out.old + n) }
-    ensures capacity { vec_capacity out.old ≤ vec_capacity out.new }
+/// Appends the bitmaps of present columns: two for an update, otherwise one, with all columns present.
+fn write_presents(kind: RowsKind, columns: usize, out: &mut Vec<u8>)
+    requires few { columns ≤ most_columns }
+    requires room { vec_len out.old + length (presents_bytes kind columns) ≤ vec_capacity out.old }
+    ensures { AppendsBytes out.old out.new (presents_bytes kind columns) }
 {
-    for _ in 0..n {
-        out.push(0)?;
-    }
-    Ok(())
-}
-
-/// Appends the bitmaps of present columns, or a part of them: two for an update, otherwise one, with all columns
-/// present.
-fn write_presents(kind: RowsKind, columns: usize, out: &mut Vec<u8>) -> Result<(), EventFault>
-    requires { columns ≤ most_columns }
-    ensures ok { OnOk result (out.new.items ≡ out.old.items ++ presents_bytes kind columns) }
-    ensures err { OnErr result (result ≡ Err (record { kind = Memory; at = 0 })) }
-    ensures kept { OnErr result (take (length out.old.items) out.new.items ≡ out.old.items) }
-    ensures full { OnErr result (vec_capacity out.old
-        < vec_len out.old + length (presents_bytes kind columns)) }
-    ensures capacity { vec_capacity out.old ≤ vec_capacity out.new }
-{
-    write_full_bitmap(columns, out)?;
+    write_full_bitmap(columns, out);
     match kind {
-        RowsKind::Update => write_full_bitmap(columns, out)?,
+        RowsKind::Update => write_full_bitmap(columns, out),
         RowsKind::Write => {}
         RowsKind::Delete => {}
     }
-    Ok(())
 }
 
 /// How many bytes the bitmaps of present columns take.

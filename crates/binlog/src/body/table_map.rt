@@ -8,13 +8,14 @@ ghost use Rattle.binlog.specs.declared.fault.EventFaultKind.TheVariants.{Memory}
 ghost use Rattle.binlog.specs.Fault.{number_at};
 ghost use Rattle.binlog.specs.Table.{IsNamed, terminator_place, named_schema, named_table, names_fault, IsCodeOf, HasNoColumns};
 ghost use Rattle.binlog.specs.TableView.{table_value};
+ghost use Rattle.binlog.specs.Appending.{AppendsBytes};
 ghost use Rattle.binlog.specs.Writing.{HasMap, names_bytes, table_map_body};
 
 use crate::bitmap::write_full_bitmap;
 use crate::column::kind::ColumnType;
 use crate::column::list::{MOST_COLUMNS, metadata_length, write_all_metadata, write_codes};
 use crate::column::types::ColumnTypes;
-use crate::count::{read_count, write_count};
+use crate::count::{count_width, read_count, write_count};
 use crate::fault::{EventFault, EventFaultKind};
 use byteorder::{ByteOrder, LittleEndian};
 use std::alloc::Global;
@@ -221,41 +222,48 @@ pub(crate) fn map_fits(map: &TableMap<'_>) -> bool
     matches!(map.types.len(), 1..=MOST_COLUMNS)
 }
 
-/// Appends the body of a table map, or a part of it. All columns may be null, and no flags are set.
-pub(crate) fn write_table_map(map: &TableMap<'_>, out: &mut Vec<u8>) -> Result<(), EventFault>
+/// How many bytes the body of a table map takes.
+pub(crate) fn map_length(map: &TableMap<'_>) -> usize
     requires { HasMap (table_value map.now) }
-    ensures ok { OnOk result (out.new.items ≡ out.old.items ++ table_map_body
-        (table_value map.now)) }
-    ensures err { OnErr result (result ≡ Err (record { kind = Memory; at = 0 })) }
-    ensures kept { OnErr result (take (length out.old.items) out.new.items ≡ out.old.items) }
-    ensures full { OnErr result (vec_capacity out.old
-        < vec_len out.old + length (table_map_body (table_value map.now))) }
-    ensures capacity { vec_capacity out.old ≤ vec_capacity out.new }
+    ensures { result ≡ length (table_map_body (table_value map.now)) }
 {
-    write_names(map, out)?;
-    write_count(map.types.len(), out)?;
-    write_codes(&map.types, out)?;
-    write_count(metadata_length(&map.types), out)?;
-    write_all_metadata(&map.types, out)?;
-    write_full_bitmap(map.types.len(), out)?;
-    Ok(())
+    let columns = map.types.len();
+    let metadata = metadata_length(&map.types);
+    12 + map.schema.len()
+        + map.table.len()
+        + count_width(columns)
+        + columns
+        + count_width(metadata)
+        + metadata
+        + columns.div_ceil(8)
 }
 
-/// Appends a table's number, its flags and its names, or a part of these.
-fn write_names(map: &TableMap<'_>, out: &mut Vec<u8>) -> Result<(), EventFault>
-    requires { HasMap (table_value map.now) }
-    ensures ok { OnOk result (out.new.items ≡ out.old.items ++ names_bytes (table_value map.now)) }
-    ensures err { OnErr result (result ≡ Err (record { kind = Memory; at = 0 })) }
-    ensures kept { OnErr result (take (length out.old.items) out.new.items ≡ out.old.items) }
-    ensures full { OnErr result (vec_capacity out.old
-        < vec_len out.old + length (names_bytes (table_value map.now))) }
-    ensures capacity { vec_capacity out.old ≤ vec_capacity out.new }
+/// Appends the body of a table map. All columns may be null, and no flags are set.
+pub(crate) fn write_table_map(map: &TableMap<'_>, out: &mut Vec<u8>)
+    requires has_map { HasMap (table_value map.now) }
+    requires room { vec_len out.old + length (table_map_body (table_value map.now))
+        ≤ vec_capacity out.old }
+    ensures { AppendsBytes out.old out.new (table_map_body (table_value map.now)) }
+{
+    write_names(map, out);
+    write_count(map.types.len(), out);
+    write_codes(&map.types, out);
+    write_count(metadata_length(&map.types), out);
+    write_all_metadata(&map.types, out);
+    write_full_bitmap(map.types.len(), out);
+}
+
+/// Appends a table's number, its flags and its names.
+fn write_names(map: &TableMap<'_>, out: &mut Vec<u8>)
+    requires has_map { HasMap (table_value map.now) }
+    requires room { vec_len out.old + length (names_bytes (table_value map.now))
+        ≤ vec_capacity out.old }
+    ensures { AppendsBytes out.old out.new (names_bytes (table_value map.now)) }
 {
     let [a, b, c, d, e, f, ..] = map.id.to_le_bytes();
-    out.extend_from_slice(&[a, b, c, d, e, f, 0, 0, map.schema.len() as u8])?;
-    out.extend_from_slice(map.schema)?;
-    out.extend_from_slice(&[0, map.table.len() as u8])?;
-    out.extend_from_slice(map.table)?;
-    out.push(0)?;
-    Ok(())
+    out.extend_from_slice(&[a, b, c, d, e, f, 0, 0, map.schema.len() as u8]).unwrap();
+    out.extend_from_slice(map.schema).unwrap();
+    out.extend_from_slice(&[0, map.table.len() as u8]).unwrap();
+    out.extend_from_slice(map.table).unwrap();
+    out.push(0).unwrap();
 }

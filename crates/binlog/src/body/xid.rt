@@ -1,12 +1,12 @@
 //! XID: the end of a transaction. MySQL Source Documentation, "Binlog Event", the page `binary_log::Xid_event`.
 
-ghost use Rattle.std.specs.Prelude.{◌≡◌, ℕ, drop, IfOk, IfErr, Ok, Some, ◌↔◌, IsTrue, ◌++◌, length, take, OnOk, OnErr, Err, ◌<◌, ◌+◌, vec_len, vec_capacity, ◌≤◌};
+ghost use Rattle.std.specs.Prelude.{◌≡◌, ℕ, drop, IfOk, IfErr, Ok, Some, ◌↔◌, IsTrue, length, ◌+◌, vec_len, vec_capacity, ◌≤◌};
 ghost use Rattle.binlog.specs.Body.{IsXid, xid_fault};
 ghost use Rattle.binlog.specs.Event.{xid};
 ghost use Rattle.binlog.specs.Writing.{IsWritable};
 ghost use Rattle.byteorder.specs.Endian.{little_bytes};
 ghost use Rattle.binlog.specs.Header.{header_length};
-ghost use Rattle.binlog.specs.declared.fault.EventFaultKind.TheVariants.{Memory};
+ghost use Rattle.binlog.specs.Appending.{AppendsBytes};
 
 use crate::fault::{EventFault, EventFaultKind};
 use byteorder::{ByteOrder, LittleEndian};
@@ -34,15 +34,10 @@ pub(crate) fn xid_fits(number: u64) -> bool
     true
 }
 
-/// Appends the body of an XID event, or nothing.
-pub(crate) fn write_xid(number: u64, out: &mut Vec<u8>) -> Result<(), EventFault>
-    ensures ok { OnOk result (out.new.items ≡ out.old.items ++ little_bytes 8 number) }
-    ensures err { OnErr result (result ≡ Err (record { kind = Memory; at = 0 })) }
-    ensures kept { OnErr result (take (length out.old.items) out.new.items ≡ out.old.items) }
-    ensures full { OnErr result (vec_capacity out.old
-        < vec_len out.old + length (little_bytes 8 number)) }
-    ensures capacity { vec_capacity out.old ≤ vec_capacity out.new }
+/// Appends the body of an XID event.
+pub(crate) fn write_xid(number: u64, out: &mut Vec<u8>)
+    requires { vec_len out.old + length (little_bytes 8 number) ≤ vec_capacity out.old }
+    ensures { AppendsBytes out.old out.new (little_bytes 8 number) }
 {
-    out.extend_from_slice(&number.to_le_bytes())?;
-    Ok(())
+    out.extend_from_slice(&number.to_le_bytes()).unwrap();
 }

@@ -1,10 +1,11 @@
 //! The columns of a table map. MySQL Source Documentation, "Binlog Event", the page `binary_log::Table_map_event`.
 
-ghost use Rattle.std.specs.Prelude.{◌≡◌, ◌+◌, ◌<◌, ◌≤◌, ◌^◌, List, length, drop, IfOk, IfErr, OnOk, MatchResult, Some, None, sum_by, ◌++◌, take, map, flat_map, OnErr, Err, vec_len, vec_capacity};
+ghost use Rattle.std.specs.Prelude.{◌≡◌, ◌+◌, ◌<◌, ◌≤◌, ◌^◌, List, length, drop, IfOk, IfErr, OnOk, MatchResult, Some, None, sum_by, map, flat_map, vec_len, vec_capacity};
 ghost use Rattle.binlog.specs.Count.{count_at, count_width, no_count};
 ghost use Rattle.binlog.specs.Table.{most_columns, AreColumns, columns_fault, codes_at, metadata_place, metadata_length, types_fault, all_metadata_fault};
 ghost use Rattle.binlog.specs.declared.column.kind.ColumnKind.{ColumnKind};
-ghost use Rattle.binlog.specs.declared.fault.EventFaultKind.TheVariants.{Columns, Memory};
+ghost use Rattle.binlog.specs.declared.fault.EventFaultKind.TheVariants.{Columns};
+ghost use Rattle.binlog.specs.Appending.{AppendsBytes};
 ghost use Rattle.binlog.specs.Column.{type_code, metadata};
 
 use crate::column::kind::ColumnType;
@@ -124,19 +125,14 @@ fn check_metadata(codes: &[u8], bytes: &[u8], start: usize) -> Result<(), EventF
     Ok(())
 }
 
-/// Appends the type codes of columns, or a part of them.
-pub(crate) fn write_codes(columns: &ColumnTypes<'_>, out: &mut Vec<u8>) -> Result<(), EventFault>
-    ensures ok { OnOk result (out.new.items ≡ out.old.items ++ map type_code columns.now) }
-    ensures err { OnErr result (result ≡ Err (record { kind = Memory; at = 0 })) }
-    ensures kept { OnErr result (take (length out.old.items) out.new.items ≡ out.old.items) }
-    ensures full { OnErr result (vec_capacity out.old
-        < vec_len out.old + length (map type_code columns.now)) }
-    ensures capacity { vec_capacity out.old ≤ vec_capacity out.new }
+/// Appends the type codes of columns.
+pub(crate) fn write_codes(columns: &ColumnTypes<'_>, out: &mut Vec<u8>)
+    requires { vec_len out.old + length (map type_code columns.now) ≤ vec_capacity out.old }
+    ensures { AppendsBytes out.old out.new (map type_code columns.now) }
 {
     for column in columns.iter() {
-        out.push(column.code())?;
+        out.push(column.code()).unwrap();
     }
-    Ok(())
 }
 
 /// How many bytes the metadata of columns takes.
@@ -151,20 +147,12 @@ pub(crate) fn metadata_length(columns: &ColumnTypes<'_>) -> usize
     sum
 }
 
-/// Appends the metadata of columns, or a part of it.
-pub(crate) fn write_all_metadata(
-    columns: &ColumnTypes<'_>,
-    out: &mut Vec<u8>,
-) -> Result<(), EventFault>
-    ensures ok { OnOk result (out.new.items ≡ out.old.items ++ flat_map metadata columns.now) }
-    ensures err { OnErr result (result ≡ Err (record { kind = Memory; at = 0 })) }
-    ensures kept { OnErr result (take (length out.old.items) out.new.items ≡ out.old.items) }
-    ensures full { OnErr result (vec_capacity out.old
-        < vec_len out.old + length (flat_map metadata columns.now)) }
-    ensures capacity { vec_capacity out.old ≤ vec_capacity out.new }
+/// Appends the metadata of columns.
+pub(crate) fn write_all_metadata(columns: &ColumnTypes<'_>, out: &mut Vec<u8>)
+    requires { vec_len out.old + length (flat_map metadata columns.now) ≤ vec_capacity out.old }
+    ensures { AppendsBytes out.old out.new (flat_map metadata columns.now) }
 {
     for column in columns.iter() {
-        column.write_metadata(out)?;
+        column.write_metadata(out);
     }
-    Ok(())
 }

@@ -1,13 +1,14 @@
 //! A column's metadata. MySQL Source Documentation, "Binlog Event", the page `binary_log::Table_map_event`.
 
-ghost use Rattle.std.specs.Prelude.{◌≡◌, ℕ, ◌+◌, ◌<◌, ◌++◌, List, [], ◌∷◌, not, IfOk, IfErr, MatchResult, OnOk, OnErr, Some, Err, length, vec_len, vec_capacity, ◌≤◌};
+ghost use Rattle.std.specs.Prelude.{◌≡◌, ℕ, ◌+◌, ◌<◌, List, [], ◌∷◌, not, IfOk, IfErr, MatchResult, Some, length, vec_len, vec_capacity, ◌≤◌};
 ghost use Rattle.binlog.specs.ColumnCode as column_code;
 ghost use Rattle.binlog.specs.Column.{type_code, metadata, is_lawful, IsColumn, metadata_size, metadata_fault, string_fault, real_type, string_length, when, column_fault};
-ghost use Rattle.binlog.specs.declared.fault.EventFaultKind.TheVariants.{Metadata, Memory};
+ghost use Rattle.binlog.specs.declared.fault.EventFaultKind.TheVariants.{Metadata};
+ghost use Rattle.binlog.specs.Appending.{AppendsBytes};
 
 use crate::column::codes;
 use crate::column::kind::{ColumnKind, ColumnType};
-use crate::fault::{EventFault, EventFaultKind};
+use crate::fault::EventFaultKind;
 
 impl ColumnType {
     /// Reads the type of this code, whose metadata is at the front of the bytes, and returns it with the bytes after
@@ -40,35 +41,36 @@ impl ColumnType {
         }
     }
 
-    /// Appends the type's metadata. The only error is `Memory`, which leaves the vector as it was.
-    pub(crate) fn write_metadata(self, out: &mut Vec<u8>) -> Result<(), EventFault>
-        ensures ok { OnOk result (out.new.items ≡ out.old.items ++ metadata self.kind) }
-        ensures err { OnErr result ((result ≡ Err (record { kind = Memory; at = 0 }))
-            × (out.new.items ≡ out.old.items)) }
-        ensures full { OnErr result (vec_capacity out.old
-            < vec_len out.old + length (metadata self.kind)) }
-        ensures capacity { vec_capacity out.old ≤ vec_capacity out.new }
+    /// Appends the type's metadata.
+    pub(crate) fn write_metadata(self, out: &mut Vec<u8>)
+        requires { vec_len out.old + length (metadata self.kind) ≤ vec_capacity out.old }
+        ensures { AppendsBytes out.old out.new (metadata self.kind) }
     {
         match self.kind {
-            ColumnKind::Varchar { maximum } => out.extend_from_slice(&maximum.to_le_bytes())?,
-            ColumnKind::Blob { prefix } => out.push(prefix)?,
-            ColumnKind::Bit { bits } => out.extend_from_slice(&[bits % 8, bits / 8])?,
-            ColumnKind::NewDecimal { precision, scale } => {
-                out.extend_from_slice(&[precision, scale])?
+            ColumnKind::Varchar { maximum } => {
+                out.extend_from_slice(&maximum.to_le_bytes()).unwrap()
             }
-            ColumnKind::Float => out.push(4)?,
-            ColumnKind::Double => out.push(8)?,
+            ColumnKind::Blob { prefix } => out.push(prefix).unwrap(),
+            ColumnKind::Bit { bits } => out.extend_from_slice(&[bits % 8, bits / 8]).unwrap(),
+            ColumnKind::NewDecimal { precision, scale } => {
+                out.extend_from_slice(&[precision, scale]).unwrap()
+            }
+            ColumnKind::Float => out.push(4).unwrap(),
+            ColumnKind::Double => out.push(8).unwrap(),
             ColumnKind::Timestamp2 { fraction }
             | ColumnKind::Datetime2 { fraction }
-            | ColumnKind::Time2 { fraction } => out.push(fraction)?,
+            | ColumnKind::Time2 { fraction } => out.push(fraction).unwrap(),
             ColumnKind::Char { maximum } => {
                 out.extend_from_slice(&[
                     codes::STRING - 16 * (maximum / 256) as u8,
                     (maximum % 256) as u8,
-                ])?
+                ])
+                .unwrap()
             }
-            ColumnKind::Enum { width } => out.extend_from_slice(&[codes::ENUM, width])?,
-            ColumnKind::Set { width } => out.extend_from_slice(&[codes::SET, width])?,
+            ColumnKind::Enum { width } => {
+                out.extend_from_slice(&[codes::ENUM, width]).unwrap()
+            }
+            ColumnKind::Set { width } => out.extend_from_slice(&[codes::SET, width]).unwrap(),
             ColumnKind::Tiny
             | ColumnKind::Short
             | ColumnKind::Int24
@@ -77,7 +79,6 @@ impl ColumnType {
             | ColumnKind::Date
             | ColumnKind::Year => {}
         }
-        Ok(())
     }
 }
 

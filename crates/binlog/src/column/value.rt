@@ -1,16 +1,15 @@
 //! How values are stored in a row. MySQL Source Documentation, "Binlog Event", the page `binary_log::Rows_event`.
 
-ghost use Rattle.std.specs.Prelude.{◌≡◌, ◌≤◌, length, IfOk, IfErr, Ok, Err, IsTrue, ◌<◌, ◌^◌, nat_lt, nat_le, ◌&&◌, ◌*◌, ◌++◌, take, OnOk, OnErr, ◌+◌, vec_len, vec_capacity};
+ghost use Rattle.std.specs.Prelude.{◌≡◌, ◌≤◌, length, IfOk, IfErr, Ok, Err, IsTrue, ◌<◌, ◌^◌, nat_lt, nat_le, ◌&&◌, ◌*◌, ◌+◌, vec_len, vec_capacity};
 ghost use Rattle.byteorder.specs.Endian.{little_number};
 ghost use Rattle.binlog.specs.Cell.{cell_value, owned_value};
 ghost use Rattle.binlog.specs.Column.{is_lawful};
 ghost use Rattle.binlog.specs.Shape.{shape, digits_size, prefix_of, is_readable, value_end, cell_of};
 ghost use Rattle.binlog.specs.RowsWritten.{value_fits, value_bytes};
-ghost use Rattle.binlog.specs.declared.fault.EventFaultKind.TheVariants.{Memory};
+ghost use Rattle.binlog.specs.Appending.{AppendsBytes};
 
 use crate::cell::{Cell, OwnedCell};
 use crate::column::kind::{ColumnKind, ColumnType};
-use crate::fault::EventFault;
 use byteorder::{ByteOrder, LittleEndian};
 
 /// How the value of a column is stored in a row.
@@ -237,38 +236,42 @@ pub fn number_fits(value: u64, width: u8) -> bool
     }
 }
 
-/// Appends the value of a cell, or a part of it; nothing if the cell is null.
-pub(crate) fn write_value(
-    shape: Shape,
-    cell: &OwnedCell,
-    out: &mut Vec<u8>,
-) -> Result<(), EventFault>
+/// How many bytes the value of a cell takes.
+pub(crate) fn value_length(shape: Shape, cell: &OwnedCell) -> usize
     requires readable { IsTrue (is_readable shape) }
     requires fits { IsTrue (value_fits shape (owned_value cell.now)) }
-    ensures ok { OnOk result (out.new.items ≡ out.old.items ++ value_bytes shape
-        (owned_value cell.now)) }
-    ensures err { OnErr result (result ≡ Err (record { kind = Memory; at = 0 })) }
-    ensures kept { OnErr result (take (length out.old.items) out.new.items ≡ out.old.items) }
-    ensures full { OnErr result (vec_capacity out.old
-        < vec_len out.old + length (value_bytes shape (owned_value cell.now))) }
-    ensures capacity { vec_capacity out.old ≤ vec_capacity out.new }
+    ensures { result ≡ length (value_bytes shape (owned_value cell.now)) }
 {
     match cell {
-        OwnedCell::Null => Ok(()),
+        OwnedCell::Null => 0,
+        OwnedCell::Number { width, .. } => usize::from(*width),
+        OwnedCell::Bytes(bytes) => match shape {
+            Shape::Prefixed { size } => usize::from(size) + bytes.len(),
+            _ => bytes.len(),
+        },
+    }
+}
+
+/// Appends the value of a cell; nothing if the cell is null.
+pub(crate) fn write_value(shape: Shape, cell: &OwnedCell, out: &mut Vec<u8>)
+    requires readable { IsTrue (is_readable shape) }
+    requires fits { IsTrue (value_fits shape (owned_value cell.now)) }
+    requires room { vec_len out.old + length (value_bytes shape (owned_value cell.now))
+        ≤ vec_capacity out.old }
+    ensures { AppendsBytes out.old out.new (value_bytes shape (owned_value cell.now)) }
+{
+    match cell {
+        OwnedCell::Null => {}
         OwnedCell::Number { value, width } => {
-            out.extend_from_slice(&value.to_le_bytes()[..*width as usize])?;
-            Ok(())
+            out.extend_from_slice(&value.to_le_bytes()[..*width as usize]).unwrap();
         }
         OwnedCell::Bytes(bytes) => match shape {
             Shape::Prefixed { size } => {
-                out.extend_from_slice(&(bytes.len() as u64).to_le_bytes()[..size as usize])?;
-                out.extend_from_slice(bytes)?;
-                Ok(())
+                let length = (bytes.len() as u64).to_le_bytes();
+                out.extend_from_slice(&length[..size as usize]).unwrap();
+                out.extend_from_slice(bytes).unwrap();
             }
-            _ => {
-                out.extend_from_slice(bytes)?;
-                Ok(())
-            }
+            _ => out.extend_from_slice(bytes).unwrap(),
         },
     }
 }

@@ -1,28 +1,22 @@
-use Rattle.binlog.proofs.Names.{◌≡◌, ◌++◌, ◌∷◌, [], ◌+◌, sym, ap, ◌∙◌, append_assoc, rules, arith, append-nil, take_all, full_bitmap}
-use Rattle.binlog.proofs.FullBitmap.{bytes_from, from_first, one_byte, from_last}
-use Rattle.binlog.proofs.Prefixes.{kept_on, next_fits}
+use Rattle.binlog.proofs.Names.{◌≡◌, ℕ, ◌<◌, ◌∷◌, [], ◌+◌, ◌-◌, ◌*◌, true, replicate, ap, ◌∙◌, rules, arith, nat_lt, length-replicate, bitmap_size}
+use Rattle.binlog.specs.RowsWritten.{bits_number}
+use Rattle.binlog.proofs.FullBitmap.{byte_is, bytes_from, from_first, next_byte, from_last}
+use Rattle.binlog.proofs.Appending.{first_write, next_fits, next_write, last_write}
 use Rattle.binlog.proofs.bitmap.write_full_bitmap.Goals as goal
 
+next : (n j byte : ℕ) → j < bitmap_size n → byte ≡ bits_number 8 (λ i. nat_lt i (n - 8 * j)) → bytes_from (replicate n true) j ≡ byte ∷ bytes_from (replicate n true) (j + 1)
+next n j byte short is = next_byte (replicate n true) j byte (omega (arith, short, ap bitmap_size (length-replicate n true))) (is ∙ byte_is n j)
+
 pub loop-j-init : goal.loop-j-init
-loop-j-init c = (ap (λ l. c.args.out.now.items ++ l) (from_first c.args.n), take_all _ _ (omega arith), omega arith)
+loop-j-init c = first_write c.args.out.now _ _ (from_first (replicate c.args.n true))
+
+pub unwrap-requires : goal.unwrap-requires
+unwrap-requires c =
+    let fits = next_fits (c.full_byte.result ∷ []) (bytes_from (replicate c.args.n true) (c.loop-j.j + 1)) c.loop-j.invariant (next c.args.n c.loop-j.j c.full_byte.result (omega (arith, c.loop-j-test.true, c.div_ceil-j-end.ensures)) c.full_byte.ensures) c.requires.room in
+    c.push.ensures.succeeds (omega (arith, fits))
 
 pub loop-j-preserved : goal.loop-j-preserved
-loop-j-preserved c =
-    let now = c.loop-j.out.items in
-    let left = bytes_from c.args.n (c.loop-j.j + 1) in
-    let next : c.full_byte.result ∷ left ≡ bytes_from c.args.n c.loop-j.j =
-    ap (λ b. b ∷ left) c.full_byte.ensures ∙ sym (one_byte c.args.n c.loop-j.j (omega (arith, c.loop-j-test.true, c.div_ceil-j-end.ensures))) in (
-      ap (λ l. l ++ left) c.in_ok-push.ensures.items ∙ append_assoc now (c.full_byte.result ∷ []) left ∙ ap (λ l. now ++ l) next ∙ c.loop-j.invariant.0,
-      kept_on c.args.out.now.items now (c.full_byte.result ∷ []) c.push.new.self.items c.loop-j.invariant.1 c.in_ok-push.ensures.items,
-      omega (arith, c.loop-j.invariant.2, c.in_ok-push.ensures.capacity),
-    )
+loop-j-preserved c = next_write (c.full_byte.result ∷ []) (bytes_from (replicate c.args.n true) (c.loop-j.j + 1)) c.loop-j.invariant (next c.args.n c.loop-j.j c.full_byte.result (omega (arith, c.loop-j-test.true, c.div_ceil-j-end.ensures)) c.full_byte.ensures) (search rules)
 
-pub returns-clause-ok : goal.returns-clause-ok
-returns-clause-ok c = sym (append-nil c.loop-j.out.items) ∙ ap (λ l. c.loop-j.out.items ++ l) (sym (from_last c.args.n c.loop-j.j (omega (arith, c.div_ceil-j-end.ensures)))) ∙ c.loop-j.invariant.0
-
-pub returns-in_err-push-clause-full : goal.returns-in_err-push-clause-full
-returns-in_err-push-clause-full c =
-    let left = bytes_from c.args.n (c.loop-j.j + 1) in
-    let next : bytes_from c.args.n c.loop-j.j ≡ c.full_byte.result ∷ left = one_byte c.args.n c.loop-j.j (omega (arith, c.loop-j-test.true, c.div_ceil-j-end.ensures)) ∙ ap (λ b. b ∷ left) (sym c.full_byte.ensures) in
-    let fits = next_fits c.args.out.now.items c.loop-j.out.items (bytes_from c.args.n c.loop-j.j) (full_bitmap c.args.n) (c.full_byte.result ∷ []) left c.loop-j.invariant.0 next in
-    search (rules, fits)
+pub returns : goal.returns
+returns c = last_write c.loop-j.invariant (from_last (replicate c.args.n true) c.loop-j.j (omega (arith, c.loop-j-test.false, c.div_ceil-j-end.ensures, ap bitmap_size (length-replicate c.args.n true))))
