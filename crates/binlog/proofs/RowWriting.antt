@@ -1,5 +1,5 @@
 -- What the writer of rows has written so far.
-use Rattle.binlog.proofs.Names.{◌≡◌, ℕ, zero, suc, ◌+◌, ◌<◌, ◌≤◌, ◌^◌, ◌==◌, Bool, true, false, List, [], ◌∷◌, ◌++◌, length, get_or, take, map, sym, ap, ◌∙◌, arith, nat_lt, nat_le, IsTrue, range_with_len, and_parts, eqb-true, leb-true, length-map, length-append, append-nil, take_all, little_bytes, length-bytes_low_first, CellValue, number_cell, bytes_cell, is_null, owned_value, owned_values, shape, kinds, owned_pairs, bitmap_byte, value_bytes, values_bytes, rows_bytes, value_fits, row_fits, pairs_fit, ColumnKind, ColumnType, RowsKind, Shape, Number, Fixed, Prefixed}
+use Rattle.binlog.proofs.Names.{◌≡◌, ℕ, zero, suc, ◌+◌, ◌<◌, ◌≤◌, ◌^◌, ◌==◌, Bool, true, false, List, [], ◌∷◌, ◌++◌, length, get_or, take, map, sym, ap, subst, ◌∙◌, arith, nat_lt, nat_le, IsTrue, range_with_len, and_parts, eqb-true, false≢true, leb-true, length-map, length-append, append-nil, take_all, little_bytes, length-bytes_low_first, CellValue, number_cell, bytes_cell, is_null, owned_value, owned_values, shape, kinds, owned_pairs, bitmap_byte, value_bytes, values_bytes, rows_bytes, value_fits, row_fits, pairs_fit, ColumnKind, ColumnType, RowsKind, Shape, Number, Fixed, Prefixed}
 use Rattle.std.proofs.lemmas.List.{append_assoc, take-take}
 use Rattle.std.proofs.Math.Seq.{take-append_seam}
 use Rattle.std.proofs.lemmas.List.FromFn.{map-range_with_len_more}
@@ -11,16 +11,6 @@ use Rattle.binlog.proofs.RowBytes.{column_kind, as_long}
 use Rattle.binlog.specs.declared.cell.OwnedCell.{OwnedCell}
 use Rattle.binlog.specs.declared.row_pair.OwnedPair.{OwnedPair}
 
--- ---- Where memory ends.
-
--- what was there before still is
-pub still_kept : (old written now new : List ℕ) → now ≡ old ++ written → take (length now) new ≡ now → take (length old) new ≡ old
-still_kept old written now new before kept =
-    let long : length now ≡ length old + length written = ap length before ∙ length-append old written in
-    sym (take-take (length old) (length now) new (omega (arith, long)))
-    ∙ ap (take (length old)) (kept ∙ before)
-    ∙ take-append_seam old written
-
 -- ---- The bitmap.
 
 pub null_there : (cells : List OwnedCell) (i : ℕ) (cell : OwnedCell) → i < length cells → cell ≡ get_or cells i cell → is_null (owned_value cell) ≡ get_or (map is_null (owned_values cells)) i false
@@ -28,23 +18,15 @@ null_there [] i cell short is = absurd (omega (arith, short))
 null_there (first ∷ cells) zero cell short is = ap (λ c. is_null (owned_value c)) is
 null_there (first ∷ cells) (suc i) cell short is = null_there cells i cell (omega (arith, short)) is
 
-pub byte_more : (bits : List Bool) (i byte : ℕ) (old now : List ℕ) → now ≡ old ++ map (bitmap_byte bits) (range_with_len 0 i) → byte ≡ bitmap_byte bits i → now ++ byte ∷ [] ≡ old ++ map (bitmap_byte bits) (range_with_len 0 (i + 1))
-byte_more bits i byte old now before is =
-    let next : 0 + i ≡ i = omega arith in
-    ap (λ xs. xs ++ byte ∷ []) before
-    ∙ append_assoc old (map (bitmap_byte bits) (range_with_len 0 i)) (byte ∷ [])
-    ∙ ap (λ b. old ++ (map (bitmap_byte bits) (range_with_len 0 i) ++ b ∷ [])) is
-    ∙ ap (λ xs. old ++ xs) (sym (map-range_with_len_more (bitmap_byte bits) 0 i i next))
-
 pub bits_length : (cells : List OwnedCell) → length cells ≡ length (map is_null (owned_values cells))
 bits_length cells = sym (length-map (owned_values cells) is_null ∙ length-map cells owned_value)
 
 -- ---- Values.
 
-pub low_bytes : (size number : ℕ) → size ≤ 8 → take size (little_bytes 8 number) ≡ little_bytes size number
+low_bytes : (size number : ℕ) → size ≤ 8 → take size (little_bytes 8 number) ≡ little_bytes size number
 low_bytes size number short = take-bytes_low_first 0 8 size number short
 
-pub number_bytes : (s : Shape) (n w : ℕ) → IsTrue (is_readable s) → value_fits s (number_cell n w) ≡ true → take w (little_bytes 8 n) ≡ value_bytes s (number_cell n w)
+number_bytes : (s : Shape) (n w : ℕ) → IsTrue (is_readable s) → value_fits s (number_cell n w) ≡ true → take w (little_bytes 8 n) ≡ value_bytes s (number_cell n w)
 number_bytes (Number width) n w readable fits =
     let p = and_parts (w == width) (nat_lt n (256 ^ width)) fits in
     let q = and_parts (nat_le 1 width) (nat_le width 8) readable in
@@ -53,17 +35,32 @@ number_bytes (Number width) n w readable fits =
 number_bytes (Fixed size) n w readable fits = absurd cc
 number_bytes (Prefixed size) n w readable fits = absurd cc
 
-pub prefix_short : (size : ℕ) → IsTrue (is_readable (Prefixed size)) → size ≤ 8
+prefix_short : (size : ℕ) → IsTrue (is_readable (Prefixed size)) → size ≤ 8
 prefix_short size readable = let q = and_parts (nat_le 1 size) (nat_le size 4) readable in omega (arith, leb-true _ _ q.1)
 
+pub number_written : (s : Shape) (cell : CellValue) (n w : ℕ) (bytes : List ℕ) → IsTrue (is_readable s) → value_fits s cell ≡ true → cell ≡ number_cell n w → bytes ≡ little_bytes 8 n → take w bytes ≡ value_bytes s cell
+number_written s cell n w bytes readable fits is all = ap (take w) all ∙ number_bytes s n w readable (ap (value_fits s) (sym is) ∙ fits) ∙ ap (value_bytes s) (sym is)
+
 -- a value after its length
-pub prefixed_length : (s : Shape) (size : ℕ) (cell : CellValue) (value : List ℕ) → s ≡ Prefixed size → cell ≡ bytes_cell value → length (value_bytes s cell) ≡ size + length value
-prefixed_length s size cell value is_s is =
+pub prefixed_written : (s : Shape) (cell : CellValue) (size number : ℕ) (value bytes text : List ℕ) → IsTrue (is_readable s) → s ≡ Prefixed size → cell ≡ bytes_cell value → bytes ≡ little_bytes 8 number → number ≡ length value → text ≡ value →
+    take size bytes ++ text ≡ value_bytes s cell
+prefixed_written s cell size number value bytes text readable is_s is all long same =
+    let short = prefix_short size (subst (λ s. IsTrue (is_readable s)) is_s readable) in
+    let front : take size bytes ≡ little_bytes size (length value) = ap (take size) all ∙ low_bytes size number short ∙ ap (little_bytes size) long in
+    (λ i. front i ++ same i) ∙ (λ i. value_bytes (sym is_s i) (sym is i))
+
+-- the lengths of values
+pub number_long : (s : Shape) (cell : CellValue) (n w : ℕ) → value_fits s cell ≡ true → cell ≡ number_cell n w → length (value_bytes s cell) ≡ w
+number_long (Number width) cell n w fits is =
+    let p = and_parts (w == width) (nat_lt n (256 ^ width)) (ap (value_fits (Number width)) (sym is) ∙ fits) in
+    ap (λ v. length (value_bytes (Number width) v)) is ∙ length-bytes_low_first 0 width n ∙ sym (eqb-true w width p.0)
+number_long (Fixed size) cell n w fits is = absurd (false≢true (ap (value_fits (Fixed size)) (sym is) ∙ fits))
+number_long (Prefixed size) cell n w fits is = absurd (false≢true (ap (value_fits (Prefixed size)) (sym is) ∙ fits))
+
+pub prefixed_long : (s : Shape) (size : ℕ) (cell : CellValue) (value : List ℕ) → s ≡ Prefixed size → cell ≡ bytes_cell value → length (value_bytes s cell) ≡ size + length value
+prefixed_long s size cell value is_s is =
     let bytes : value_bytes s cell ≡ little_bytes size (length value) ++ value = λ i. value_bytes (is_s i) (is i) in
     omega (arith, ap length bytes, length-append (little_bytes size (length value)) value, length-bytes_low_first 0 size (length value))
-
-pub low_length : (size number : ℕ) (bytes : List ℕ) → size ≤ 8 → bytes ≡ little_bytes 8 number → length (take size bytes) ≡ size
-low_length size number bytes short is = ap (λ xs. length (take size xs)) is ∙ ap length (low_bytes size number short) ∙ length-bytes_low_first 0 size number
 
 -- ---- Cells and pairs, item by item.
 
