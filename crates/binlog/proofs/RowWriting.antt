@@ -1,12 +1,10 @@
 -- What the writer of rows has written so far.
-use Rattle.binlog.proofs.Names.{◌≡◌, ℕ, zero, suc, ◌+◌, ◌<◌, ◌≤◌, ◌^◌, ◌==◌, Bool, true, false, List, [], ◌∷◌, ◌++◌, length, get_or, take, map, sym, ap, subst, ◌∙◌, arith, nat_lt, nat_le, IsTrue, range_with_len, and_parts, eqb-true, false≢true, leb-true, length-map, length-append, append-nil, take_all, little_bytes, length-bytes_low_first, CellValue, number_cell, bytes_cell, is_null, owned_value, owned_values, shape, kinds, owned_pairs, bitmap_byte, value_bytes, values_bytes, rows_bytes, value_fits, row_fits, pairs_fit, ColumnKind, ColumnType, RowsKind, Shape, Number, Fixed, Prefixed}
-use Rattle.std.proofs.lemmas.List.{append_assoc, take-take}
-use Rattle.std.proofs.Math.Seq.{take-append_seam}
-use Rattle.std.proofs.lemmas.List.FromFn.{map-range_with_len_more}
+use Rattle.binlog.proofs.Names.{◌≡◌, ℕ, zero, suc, ◌+◌, ◌-◌, ◌<◌, ◌≤◌, ◌^◌, ◌==◌, Bool, true, false, List, [], ◌∷◌, ◌++◌, length, get_or, take, map, sym, ap, subst, ◌∙◌, arith, nat_lt, nat_le, IsTrue, range_with_len, length-map-range_with_len, bitmap_size, and_parts, eqb-true, false≢true, leb-true, length-map, length-append, drop_of_length-le, little_bytes, length-bytes_low_first, CellValue, number_cell, bytes_cell, is_null, owned_value, owned_values, shape, kinds, owned_pairs, bitmap_byte, value_bytes, values_bytes, rows_bytes, value_fits, row_fits, pairs_fit, ColumnKind, ColumnType, RowsKind, Shape, Number, Fixed, Prefixed}
+use Rattle.std.proofs.Common.{drop, min}
 use Rattle.byteorder.proofs.Bytes.{take-bytes_low_first}
 use Rattle.binlog.specs.Shape.{is_readable}
 use Rattle.binlog.specs.RowsView.{owned_pair}
-use Rattle.binlog.specs.RowsWritten.{pair_bytes, pair_fits}
+use Rattle.binlog.specs.RowsWritten.{bitmap_bytes, pair_bytes, pair_fits}
 use Rattle.binlog.proofs.RowBytes.{column_kind, as_long}
 use Rattle.binlog.specs.declared.cell.OwnedCell.{OwnedCell}
 use Rattle.binlog.specs.declared.row_pair.OwnedPair.{OwnedPair}
@@ -20,6 +18,9 @@ null_there (first ∷ cells) (suc i) cell short is = null_there cells i cell (om
 
 pub bits_length : (cells : List OwnedCell) → length cells ≡ length (map is_null (owned_values cells))
 bits_length cells = sym (length-map (owned_values cells) is_null ∙ length-map cells owned_value)
+
+pub bitmap_long : (cells : List OwnedCell) → length (bitmap_bytes (map is_null (owned_values cells))) ≡ bitmap_size (length cells)
+bitmap_long cells = length-map-range_with_len (bitmap_byte (map is_null (owned_values cells))) 0 _ ∙ ap bitmap_size (sym (bits_length cells))
 
 -- ---- Values.
 
@@ -78,45 +79,27 @@ value_there (u ∷ types) (c ∷ cells) (suc i) t cell fits short is_t is =
     let p = and_parts (value_fits (shape u.kind) (owned_value c)) (row_fits (kinds types) (owned_values cells)) fits in
     value_there types cells i t cell p.1 (omega (arith, short)) is_t is
 
-value_next : (types : List ColumnType) (cells : List OwnedCell) (i : ℕ) (t : ColumnType) (cell : OwnedCell) → i < length types → i < length cells → t ≡ get_or types i t → cell ≡ get_or cells i cell →
-    values_bytes (take (suc i) (kinds types)) (take (suc i) (owned_values cells)) ≡ values_bytes (take i (kinds types)) (take i (owned_values cells)) ++ value_bytes (shape t.kind) (owned_value cell)
-value_next [] cells i t cell a b is_t is = absurd (omega (arith, a))
-value_next (u ∷ types) [] i t cell a b is_t is = absurd (omega (arith, b))
-value_next (u ∷ types) (c ∷ cells) zero t cell a b is_t is =
-    append-nil (value_bytes (shape u.kind) (owned_value c)) ∙ (λ j. value_bytes (shape (sym is_t j).kind) (owned_value (sym is j)))
-value_next (u ∷ types) (c ∷ cells) (suc i) t cell a b is_t is =
-    let first = value_bytes (shape u.kind) (owned_value c) in
-    ap (λ xs. first ++ xs) (value_next types cells i t cell (omega (arith, a)) (omega (arith, b)) is_t is)
-    ∙ sym (append_assoc first (values_bytes (take i (kinds types)) (take i (owned_values cells))) (value_bytes (shape t.kind) (owned_value cell)))
+-- the values from one on
+abbrev pub values_from : List ColumnType → List OwnedCell → ℕ → List ℕ
+values_from types cells i = values_bytes (drop i (kinds types)) (drop i (owned_values cells))
 
-pub value_more : (types : List ColumnType) (cells : List OwnedCell) (i : ℕ) (t : ColumnType) (cell : OwnedCell) (old now : List ℕ) → i < length types → i < length cells → t ≡ get_or types i t → cell ≡ get_or cells i cell →
-    now ≡ old ++ values_bytes (take i (kinds types)) (take i (owned_values cells)) →
-    now ++ value_bytes (shape t.kind) (owned_value cell) ≡ old ++ values_bytes (take (i + 1) (kinds types)) (take (i + 1) (owned_values cells))
-value_more types cells i t cell old now a b is_t is before =
-    let next : suc i ≡ i + 1 = omega arith in
-    ap (λ xs. xs ++ value_bytes (shape t.kind) (owned_value cell)) before
-    ∙ append_assoc old (values_bytes (take i (kinds types)) (take i (owned_values cells))) (value_bytes (shape t.kind) (owned_value cell))
-    ∙ ap (λ xs. old ++ xs) (sym (value_next types cells i t cell a b is_t is))
-    ∙ ap (λ k. old ++ values_bytes (take k (kinds types)) (take k (owned_values cells))) next
+next_value : (types : List ColumnType) (cells : List OwnedCell) (i : ℕ) (t : ColumnType) (cell : OwnedCell) → i < length types → i < length cells → t ≡ get_or types i t → cell ≡ get_or cells i cell →
+    values_from types cells i ≡ value_bytes (shape t.kind) (owned_value cell) ++ values_from types cells (suc i)
+next_value [] cells i t cell a b is_t is = absurd (omega (arith, a))
+next_value (u ∷ types) [] i t cell a b is_t is = absurd (omega (arith, b))
+next_value (u ∷ types) (c ∷ cells) zero t cell a b is_t is = λ j. value_bytes (shape (sym is_t j).kind) (owned_value (sym is j)) ++ values_bytes (kinds types) (owned_values cells)
+next_value (u ∷ types) (c ∷ cells) (suc i) t cell a b is_t is = next_value types cells i t cell (omega (arith, a)) (omega (arith, b)) is_t is
 
--- the values before one, and that one, are no longer than all
-pub value_room : (types : List ColumnType) (cells : List OwnedCell) (i : ℕ) (t : ColumnType) (cell : OwnedCell) → i < length types → i < length cells → t ≡ get_or types i t → cell ≡ get_or cells i cell →
-    length (values_bytes (take i (kinds types)) (take i (owned_values cells))) + length (value_bytes (shape t.kind) (owned_value cell)) ≤ length (values_bytes (kinds types) (owned_values cells))
-value_room [] cells i t cell a b is_t is = absurd (omega (arith, a))
-value_room (u ∷ types) [] i t cell a b is_t is = absurd (omega (arith, b))
-value_room (u ∷ types) (c ∷ cells) zero t cell a b is_t is =
-    let same : length (value_bytes (shape t.kind) (owned_value cell)) ≡ length (value_bytes (shape u.kind) (owned_value c)) = λ j. length (value_bytes (shape (is_t j).kind) (owned_value (is j))) in
-    omega (arith, same, length-append (value_bytes (shape u.kind) (owned_value c)) (values_bytes (kinds types) (owned_values cells)))
-value_room (u ∷ types) (c ∷ cells) (suc i) t cell a b is_t is =
-    let first = value_bytes (shape u.kind) (owned_value c) in
-    let more = value_room types cells i t cell (omega (arith, a)) (omega (arith, b)) is_t is in
-    omega (arith, more, length-append first (values_bytes (take i (kinds types)) (take i (owned_values cells))), length-append first (values_bytes (kinds types) (owned_values cells)))
+pub value_next : (types : List ColumnType) (cells : List OwnedCell) (i : ℕ) (t : ColumnType) (cell : OwnedCell) → length cells ≡ length types → i < length types → t ≡ get_or types i t → cell ≡ get_or cells i cell →
+    values_from types cells i ≡ value_bytes (shape t.kind) (owned_value cell) ++ values_from types cells (i + 1)
+value_next types cells i t cell long short is_t is =
+    let more : suc i ≡ i + 1 = omega arith in
+    next_value types cells i t cell short (omega (arith, short, long)) is_t is ∙ ap (λ k. value_bytes (shape t.kind) (owned_value cell) ++ values_from types cells k) more
 
-pub values_all : (types : List ColumnType) (cells : List OwnedCell) (i : ℕ) → length types ≤ i → length cells ≤ i → values_bytes (take i (kinds types)) (take i (owned_values cells)) ≡ values_bytes (kinds types) (owned_values cells)
-values_all types cells i a b =
-    let x : take i (kinds types) ≡ kinds types = take_all i (kinds types) (omega (arith, a, length-map types column_kind)) in
-    let y : take i (owned_values cells) ≡ owned_values cells = take_all i (owned_values cells) (omega (arith, b, length-map cells owned_value)) in
-    λ j. values_bytes (x j) (y j)
+pub values_end : (types : List ColumnType) (cells : List OwnedCell) (i : ℕ) → length cells ≡ length types → length types ≤ i → values_from types cells i ≡ []
+values_end types cells i long past =
+    let a : drop i (kinds types) ≡ [] = drop_of_length-le (kinds types) (omega (arith, past, length-map types column_kind)) in
+    ap (λ k. values_bytes k (drop i (owned_values cells))) a
 
 pub pair_there : (kind : RowsKind) (types : List ColumnKind) (pairs : List OwnedPair) (i : ℕ) (pair : OwnedPair) → pairs_fit kind types (owned_pairs pairs) ≡ true → i < length pairs → pair ≡ get_or pairs i pair → pair_fits kind types (owned_pair pair) ≡ true
 pair_there kind types [] i pair fits short is = absurd (omega (arith, short))
@@ -127,34 +110,32 @@ pair_there kind types (first ∷ pairs) (suc i) pair fits short is =
     let p = and_parts (pair_fits kind types (owned_pair first)) (pairs_fit kind types (owned_pairs pairs)) fits in
     pair_there kind types pairs i pair p.1 (omega (arith, short)) is
 
-pair_next : (types : List ColumnKind) (pairs : List OwnedPair) (i : ℕ) (pair : OwnedPair) → i < length pairs → pair ≡ get_or pairs i pair →
-    rows_bytes types (take (suc i) (owned_pairs pairs)) ≡ rows_bytes types (take i (owned_pairs pairs)) ++ pair_bytes types (owned_pair pair)
-pair_next types [] i pair short is = absurd (omega (arith, short))
-pair_next types (first ∷ pairs) zero pair short is = append-nil (pair_bytes types (owned_pair first)) ∙ ap (λ q. pair_bytes types (owned_pair q)) (sym is)
-pair_next types (first ∷ pairs) (suc i) pair short is =
-    ap (λ xs. pair_bytes types (owned_pair first) ++ xs) (pair_next types pairs i pair (omega (arith, short)) is)
-    ∙ sym (append_assoc (pair_bytes types (owned_pair first)) (rows_bytes types (take i (owned_pairs pairs))) (pair_bytes types (owned_pair pair)))
+-- the rows from one pair on
+abbrev pub rows_from : List ColumnKind → List OwnedPair → ℕ → List ℕ
+rows_from types pairs i = rows_bytes types (drop i (owned_pairs pairs))
 
-pub pair_more : (types : List ColumnKind) (pairs : List OwnedPair) (i : ℕ) (pair : OwnedPair) (old now : List ℕ) → i < length pairs → pair ≡ get_or pairs i pair → now ≡ old ++ rows_bytes types (take i (owned_pairs pairs)) →
-    now ++ pair_bytes types (owned_pair pair) ≡ old ++ rows_bytes types (take (i + 1) (owned_pairs pairs))
-pair_more types pairs i pair old now short is before =
-    let next : suc i ≡ i + 1 = omega arith in
-    ap (λ xs. xs ++ pair_bytes types (owned_pair pair)) before
-    ∙ append_assoc old (rows_bytes types (take i (owned_pairs pairs))) (pair_bytes types (owned_pair pair))
-    ∙ ap (λ xs. old ++ xs) (sym (pair_next types pairs i pair short is))
-    ∙ ap (λ k. old ++ rows_bytes types (take k (owned_pairs pairs))) next
+next_pair : (types : List ColumnKind) (pairs : List OwnedPair) (i : ℕ) (pair : OwnedPair) → i < length pairs → pair ≡ get_or pairs i pair → rows_from types pairs i ≡ pair_bytes types (owned_pair pair) ++ rows_from types pairs (suc i)
+next_pair types [] i pair short is = absurd (omega (arith, short))
+next_pair types (first ∷ pairs) zero pair short is = ap (λ q. pair_bytes types (owned_pair q) ++ rows_bytes types (owned_pairs pairs)) (sym is)
+next_pair types (first ∷ pairs) (suc i) pair short is = next_pair types pairs i pair (omega (arith, short)) is
 
--- the pairs before one, and that one, are no longer than all
-pub pair_room : (types : List ColumnKind) (pairs : List OwnedPair) (i : ℕ) (pair : OwnedPair) → i < length pairs → pair ≡ get_or pairs i pair →
-    length (rows_bytes types (take i (owned_pairs pairs))) + length (pair_bytes types (owned_pair pair)) ≤ length (rows_bytes types (owned_pairs pairs))
-pair_room types [] i pair short is = absurd (omega (arith, short))
-pair_room types (first ∷ pairs) zero pair short is =
-    let same : length (pair_bytes types (owned_pair pair)) ≡ length (pair_bytes types (owned_pair first)) = ap (λ q. length (pair_bytes types (owned_pair q))) is in
-    omega (arith, same, length-append (pair_bytes types (owned_pair first)) (rows_bytes types (owned_pairs pairs)))
-pair_room types (first ∷ pairs) (suc i) pair short is =
-    let bytes = pair_bytes types (owned_pair first) in
-    let more = pair_room types pairs i pair (omega (arith, short)) is in
-    omega (arith, more, length-append bytes (rows_bytes types (take i (owned_pairs pairs))), length-append bytes (rows_bytes types (owned_pairs pairs)))
+pub pair_next : (types : List ColumnKind) (pairs : List OwnedPair) (i : ℕ) (pair : OwnedPair) → i < length pairs → pair ≡ get_or pairs i pair → rows_from types pairs i ≡ pair_bytes types (owned_pair pair) ++ rows_from types pairs (i + 1)
+pair_next types pairs i pair short is =
+    let more : suc i ≡ i + 1 = omega arith in
+    next_pair types pairs i pair short is ∙ ap (λ k. pair_bytes types (owned_pair pair) ++ rows_from types pairs k) more
 
-pub pairs_all : (types : List ColumnKind) (pairs : List OwnedPair) (i : ℕ) → length pairs ≤ i → rows_bytes types (take i (owned_pairs pairs)) ≡ rows_bytes types (owned_pairs pairs)
-pairs_all types pairs i long = ap (rows_bytes types) (take_all i (owned_pairs pairs) (omega (arith, long, length-map pairs owned_pair)))
+pub pairs_end : (types : List ColumnKind) (pairs : List OwnedPair) (i : ℕ) → length pairs ≤ i → rows_from types pairs i ≡ []
+pairs_end types pairs i past = ap (rows_bytes types) (drop_of_length-le (owned_pairs pairs) (omega (arith, past, length-map pairs owned_pair)))
+
+-- ---- Lengths that are summed up to the highest number.
+
+-- the sum so far and the length that is left
+pub record Sums (sum left all : ℕ) : Type 0 where
+  pub is : min (sum + left) (2 ^ 64 - 1) ≡ min all (2 ^ 64 - 1)
+  pub small : sum ≤ 2 ^ 64 - 1
+
+pub sum_next : {sum left all : ℕ} (part rest next total : ℕ) → Sums sum left all → left ≡ part + rest → next ≡ min part (2 ^ 64 - 1) → total ≡ min (sum + next) (2 ^ 64 - 1) → Sums total rest all
+sum_next part rest next total so_far first is more = record { is = omega (arith, so_far.is, so_far.small, first, is, more); small = omega (arith, more) }
+
+pub sum_all : {sum left all : ℕ} → Sums sum left all → left ≡ 0 → sum ≡ min all (2 ^ 64 - 1)
+sum_all so_far none = omega (arith, so_far.is, so_far.small, none)

@@ -176,7 +176,16 @@ pub(crate) fn row_length(types: &[ColumnType], cells: &[OwnedCell]) -> usize
     requires { IsTrue (row_fits (kinds types.now) (owned_values cells.now)) }
     ensures { IsCapped result (length (row_bytes (kinds types.now) (owned_values cells.now))) }
 {
-    let mut sum = cells.len().div_ceil(8);
+    cells.len().div_ceil(8).saturating_add(values_length(types, cells))
+}
+
+/// How many bytes the values of the cells that are not null take, or `usize::MAX` if that is less.
+fn values_length(types: &[ColumnType], cells: &[OwnedCell]) -> usize
+    requires as_many { length cells.now ≡ length types.now }
+    requires fit { IsTrue (row_fits (kinds types.now) (owned_values cells.now)) }
+    ensures { IsCapped result (length (values_bytes (kinds types.now) (owned_values cells.now))) }
+{
+    let mut sum: usize = 0;
     for i in 0..types.len() {
         sum = sum.saturating_add(value_length(shape_of(types[i]), &cells[i]));
     }
