@@ -92,6 +92,14 @@ long_9 a b c d e f g h i = simp length-append
 size_small : (n : ℕ) → bitmap_size n ≤ n + 1
 size_small n = grind arith
 
+pub map_long : (t : TableValue) →
+    length (table_map_body t) ≡ 12 + length t.schema + length t.table + length (length_encoded (length t.columns)) + length t.columns + length (length_encoded (length (flat_map metadata t.columns))) + length (flat_map metadata t.columns) + bitmap_size (length t.columns)
+map_long t =
+    let all_metadata = flat_map metadata t.columns in
+    let n = length t.columns in
+    let long = long_9 (little_bytes 6 t.id) (0 ∷ 0 ∷ length t.schema ∷ t.schema) (0 ∷ length t.table ∷ t.table) (0 ∷ []) (length_encoded n) (map type_code t.columns) (length_encoded (length all_metadata)) all_metadata (full_bitmap n) in
+    omega (arith, long, length-bytes_low_first 0 6 t.id, full_long n, length-map t.columns type_code)
+
 pub map_short : (t : TableValue) → HasMap t → length (table_map_body t) < 2 ^ 31
 map_short t has =
     let is = suits t has in
@@ -100,5 +108,4 @@ map_short t has =
     let small = all_metadata_short t.columns in
     let count = spelled n (omega (arith, is.number.1)) in
     let measure = spelled (length all_metadata) (omega (arith, is.number.1, small)) in
-    let long = long_9 (little_bytes 6 t.id) (0 ∷ 0 ∷ length t.schema ∷ t.schema) (0 ∷ length t.table ∷ t.table) (0 ∷ []) (length_encoded n) (map type_code t.columns) (length_encoded (length all_metadata)) all_metadata (full_bitmap n) in
-    omega (arith, long, length-bytes_low_first 0 6 t.id, is.schema, is.table, is.number.1, count.short, measure.short, small, full_long n, size_small n, length-map t.columns type_code)
+    omega (arith, map_long t, is.schema, is.table, is.number.1, count.short, measure.short, small, size_small n)

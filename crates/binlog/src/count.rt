@@ -75,6 +75,8 @@ pub(crate) fn write_padded_count(width: usize, count: usize, out: &mut Vec<u8>)
         1 => out.push(a).unwrap(),
         3 => out.extend_from_slice(&[TWO_BYTES, a, b]).unwrap(),
         4 => out.extend_from_slice(&[THREE_BYTES, a, b, 0]).unwrap(),
-        _ => out.extend_from_slice(&[EIGHT_BYTES, a, b, 0, 0, 0, 0, 0, 0]).unwrap(),
+        _ => out
+            .extend_from_slice(&[EIGHT_BYTES, a, b, 0, 0, 0, 0, 0, 0])
+            .unwrap(),
     }
 }

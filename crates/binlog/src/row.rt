@@ -11,7 +11,9 @@ ghost use Rattle.binlog.specs.Appending.{IsCapped};
 use crate::bitmap::{has_set, is_set, write_bitmap};
 use crate::cell::{Cell, OwnedCell};
 use crate::column::kind::ColumnType;
-use crate::column::value::{read_value, shape_of, value_end, value_fits, value_length, write_value};
+use crate::column::value::{
+    read_value, shape_of, value_end, value_fits, value_length, write_value,
+};
 use std::marker::Model;
 
 /// A row image. It borrows from the event's bytes and takes no memory. In contracts it is the list of its cells.
@@ -176,7 +178,10 @@ pub(crate) fn row_length(types: &[ColumnType], cells: &[OwnedCell]) -> usize
     requires { IsTrue (row_fits (kinds types.now) (owned_values cells.now)) }
     ensures { IsCapped result (length (row_bytes (kinds types.now) (owned_values cells.now))) }
 {
-    cells.len().div_ceil(8).saturating_add(values_length(types, cells))
+    cells
+        .len()
+        .div_ceil(8)
+        .saturating_add(values_length(types, cells))
 }
 
 /// How many bytes the values of the cells that are not null take, or `usize::MAX` if that is less.

@@ -98,18 +98,14 @@ pub(crate) fn pair_length(kind: RowsKind, types: &[ColumnType], pair: &OwnedPair
     match pair {
         OwnedPair::Insert { after } => row_length(types, after),
         OwnedPair::Delete { before } => row_length(types, before),
-        OwnedPair::Update { before, after } => row_length(types, before)
-            .saturating_add(row_length(types, after)),
+        OwnedPair::Update { before, after } => row_length(types, before).saturating_add(row_length(
+            types, after,
+        )),
     }
 }
 
 /// Appends the rows of a pair.
-pub(crate) fn write_pair(
-    kind: RowsKind,
-    types: &[ColumnType],
-    pair: &OwnedPair,
-    out: &mut Vec<u8>,
-)
+pub(crate) fn write_pair(kind: RowsKind, types: &[ColumnType], pair: &OwnedPair, out: &mut Vec<u8>)
     requires fit { IsTrue (pair_fits kind (kinds types.now) (owned_pair pair.now)) }
     requires room { vec_len out.old + length (pair_bytes (kinds types.now) (owned_pair pair.now))
         ≤ vec_capacity out.old }

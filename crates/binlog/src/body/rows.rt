@@ -246,7 +246,8 @@ fn write_front(id: u64, extra: usize, out: &mut Vec<u8>)
 {
     let [a, b, c, d, e, f, ..] = id.to_le_bytes();
     let [low, high] = ((2 + extra) as u16).to_le_bytes();
-    out.extend_from_slice(&[a, b, c, d, e, f, STMT_END, 0, low, high]).unwrap();
+    out.extend_from_slice(&[a, b, c, d, e, f, STMT_END, 0, low, high])
+        .unwrap();
 }
 
 /// Appends the bitmaps of present columns: two for an update, otherwise one, with all columns present.

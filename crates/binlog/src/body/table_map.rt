@@ -261,7 +261,8 @@ fn write_names(map: &TableMap<'_>, out: &mut Vec<u8>)
     ensures { AppendsBytes out.old out.new (names_bytes (table_value map.now)) }
 {
     let [a, b, c, d, e, f, ..] = map.id.to_le_bytes();
-    out.extend_from_slice(&[a, b, c, d, e, f, 0, 0, map.schema.len() as u8]).unwrap();
+    out.extend_from_slice(&[a, b, c, d, e, f, 0, 0, map.schema.len() as u8])
+        .unwrap();
     out.extend_from_slice(map.schema).unwrap();
     out.extend_from_slice(&[0, map.table.len() as u8]).unwrap();
     out.extend_from_slice(map.table).unwrap();

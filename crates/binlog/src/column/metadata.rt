@@ -67,9 +67,7 @@ impl ColumnType {
                 ])
                 .unwrap()
             }
-            ColumnKind::Enum { width } => {
-                out.extend_from_slice(&[codes::ENUM, width]).unwrap()
-            }
+            ColumnKind::Enum { width } => { out.extend_from_slice(&[codes::ENUM, width]).unwrap() }
             ColumnKind::Set { width } => out.extend_from_slice(&[codes::SET, width]).unwrap(),
             ColumnKind::Tiny
             | ColumnKind::Short

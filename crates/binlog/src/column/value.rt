@@ -263,7 +263,8 @@ pub(crate) fn write_value(shape: Shape, cell: &OwnedCell, out: &mut Vec<u8>)
     match cell {
         OwnedCell::Null => {}
         OwnedCell::Number { value, width } => {
-            out.extend_from_slice(&value.to_le_bytes()[..*width as usize]).unwrap();
+            out.extend_from_slice(&value.to_le_bytes()[..*width as usize])
+                .unwrap();
         }
         OwnedCell::Bytes(bytes) => match shape {
             Shape::Prefixed { size } => {
