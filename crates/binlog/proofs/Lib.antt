@@ -18,7 +18,6 @@ pub mod TableSets
 pub mod Events
 pub mod RowBytes
 pub mod RowWriting
-pub mod EventFrames
 pub mod LawfulColumns
 pub mod Appending
 pub mod ColumnBytes

@@ -24,7 +24,7 @@ use crate::column::list::read_columns;
 use crate::event_type;
 use crate::fault::{EventFault, EventFaultKind};
 use crate::filter::Follow;
-use crate::header::{HEADER_LENGTH, Header, frame};
+use crate::header::{HEADER_LENGTH, Header, header_bytes};
 use gtid::Gtid;
 
 /// An event of the binary log. It borrows from the bytes that it was read from.
@@ -218,18 +218,32 @@ impl Event<'_> {
         ensures full { OnErr result (vec_capacity out.old
             < vec_len out.old + length (event_bytes (event_value self.now))) }
     {
-        out.reserve(event_length(self))?;
-        write_event(self, out);
+        let size = HEADER_LENGTH + body_length(self);
+        out.reserve(size)?;
+        out.extend_from_slice(&header_bytes(event_code(self), size as u32))
+            .unwrap();
+        write_body(self, out);
         Ok(())
     }
 }
 
-/// How many bytes an event takes.
-fn event_length(event: &Event<'_>) -> usize
-    requires { IsWritable (event_value event.now) }
-    ensures { result ≡ length (event_bytes (event_value event.now)) }
+/// The type of an event.
+fn event_code(event: &Event<'_>) -> u8
+    ensures { result ≡ event_code (event_value event.now) }
 {
-    HEADER_LENGTH + body_length(event)
+    match event {
+        Event::Format => event_type::FORMAT_DESCRIPTION,
+        Event::Begin => event_type::QUERY,
+        Event::Commit => event_type::QUERY,
+        Event::Neutral => event_type::IGNORABLE,
+        Event::Stop => event_type::STOP,
+        Event::Rotate { .. } => event_type::ROTATE,
+        Event::Gtid(_) => event_type::GTID,
+        Event::TableMap(_) => event_type::TABLE_MAP,
+        Event::OtherMap { .. } => event_type::TABLE_MAP,
+        Event::Rows(rows) => rows.kind.code(),
+        Event::Xid { .. } => event_type::XID,
+    }
 }
 
 /// How many bytes the body of an event takes.
@@ -252,59 +266,24 @@ fn body_length(event: &Event<'_>) -> usize
     }
 }
 
-/// Appends an event.
-fn write_event(event: &Event<'_>, out: &mut Vec<u8>)
-    requires writable { IsWritable (event_value event.now) }
-    requires room { vec_len out.old + length (event_bytes (event_value event.now))
-        ≤ vec_capacity out.old }
-    ensures { out.new.items ≡ out.old.items ++ event_bytes (event_value event.now) }
-{
-    let start = out.len();
-    out.extend_from_slice(&[0; HEADER_LENGTH]).unwrap();
-    let code = write_body(event, out);
-    frame(code, start, out);
-}
-
-/// Appends the body of an event, and returns the event's type.
-fn write_body(event: &Event<'_>, out: &mut Vec<u8>) -> u8
+/// Appends the body of an event.
+fn write_body(event: &Event<'_>, out: &mut Vec<u8>)
     requires writable { IsWritable (event_value event.now) }
     requires room { vec_len out.old + length (event_body (event_value event.now))
         ≤ vec_capacity out.old }
-    ensures code { result ≡ event_code (event_value event.now) }
-    ensures appends { AppendsBytes out.old out.new (event_body (event_value event.now)) }
+    ensures { AppendsBytes out.old out.new (event_body (event_value event.now)) }
 {
     match event {
-        Event::Format => {
-            write_format(out);
-            event_type::FORMAT_DESCRIPTION
-        }
-        Event::Begin => {
-            write_query(Query::Begin, out);
-            event_type::QUERY
-        }
-        Event::Commit => {
-            write_query(Query::Commit, out);
-            event_type::QUERY
-        }
-        Event::Neutral => event_type::IGNORABLE,
-        Event::Stop => event_type::STOP,
-        Event::Rotate { position, name } => {
-            write_rotate(*position, name, out);
-            event_type::ROTATE
-        }
-        Event::Gtid(gtid) => {
-            write_gtid(*gtid, out);
-            event_type::GTID
-        }
-        Event::TableMap(map) => {
-            write_table_map(map, out);
-            event_type::TABLE_MAP
-        }
-        Event::OtherMap { .. } => event_type::TABLE_MAP,
+        Event::Format => write_format(out),
+        Event::Begin => write_query(Query::Begin, out),
+        Event::Commit => write_query(Query::Commit, out),
+        Event::Neutral => {}
+        Event::Stop => {}
+        Event::Rotate { position, name } => write_rotate(*position, name, out),
+        Event::Gtid(gtid) => write_gtid(*gtid, out),
+        Event::TableMap(map) => write_table_map(map, out),
+        Event::OtherMap { .. } => {}
         Event::Rows(rows) => write_rows_event(rows, out),
-        Event::Xid { number } => {
-            write_xid(*number, out);
-            event_type::XID
-        }
+        Event::Xid { number } => write_xid(*number, out),
     }
 }

@@ -1,7 +1,7 @@
 //! The header of an event. MySQL Source Documentation, "Binlog Event", the page
 //! `binary_log::Log_event_header`.
 
-ghost use Rattle.std.specs.Prelude.{◌≡◌, ℕ, Bool, List, length, drop, IfOk, IfErr, Ok, Some, ◌+◌, ◌<◌, ◌≤◌, ◌^◌, ◌++◌, take};
+ghost use Rattle.std.specs.Prelude.{◌≡◌, ℕ, Bool, List, length, drop, IfOk, IfErr, Ok, Some};
 ghost use Rattle.binlog.specs.Header.{header_length, IsFramed, header_fault};
 ghost use Rattle.binlog.specs.Writing.{header_bytes};
 
@@ -69,31 +69,9 @@ impl Header {
 }
 
 /// A header with time 0, server 1, next position 0 and no flags.
-fn header_bytes(code: u8, size: u32) -> [u8; HEADER_LENGTH]
+pub(crate) fn header_bytes(code: u8, size: u32) -> [u8; HEADER_LENGTH]
     ensures { result ≡ header_bytes code size }
 {
     let [a, b, c, d] = size.to_le_bytes();
     [0, 0, 0, 0, code, 1, 0, 0, 0, a, b, c, d, 0, 0, 0, 0, 0, 0]
-}
-
-/// Sets the header of an event whose other bytes are written.
-fn set_header(code: u8, event: &mut [u8])
-    requires whole { header_length ≤ length event.old }
-    requires size { length event.old < 2 ^ 32 }
-    ensures { event.new ≡ header_bytes code (length event.old) ++ drop header_length event.old }
-{
-    let size = event.len() as u32;
-    let (front, _) = event.split_at_mut(HEADER_LENGTH);
-    front.copy_from_slice(&header_bytes(code, size));
-}
-
-/// Writes the header of the event that begins at `start`: of this type, with its body after 19 bytes of room.
-pub(crate) fn frame(code: u8, start: usize, out: &mut Vec<u8>)
-    requires whole { start + header_length ≤ length out.old.items }
-    requires size { length out.old.items < start + 2 ^ 32 }
-    ensures { out.new.items ≡ take start out.old.items ++ header_bytes code
-        (length (drop start out.old.items)) ++ drop (start + header_length) out.old.items }
-{
-    let (_, event) = out.as_mut_slice().split_at_mut(start);
-    set_header(code, event);
 }

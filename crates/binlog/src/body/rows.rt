@@ -211,19 +211,17 @@ pub(crate) fn rows_event_length(rows: &RowsEvent<'_>) -> usize
     rows.bytes_at - HEADER_LENGTH + rows.bytes.len()
 }
 
-/// Appends the body of a rows event that ends its statement, and returns the event's type.
-pub(crate) fn write_rows_event(rows: &RowsEvent<'_>, out: &mut Vec<u8>) -> u8
+/// Appends the body of a rows event that ends its statement.
+pub(crate) fn write_rows_event(rows: &RowsEvent<'_>, out: &mut Vec<u8>)
     requires has_body { HasRowsBody (rows_value rows.now) }
     requires room { vec_len out.old + length (rows_body (rows_value rows.now)) ≤ vec_capacity out.old }
-    ensures code { result ≡ rows_code rows.now.kind }
-    ensures appends { AppendsBytes out.old out.new (rows_body (rows_value rows.now)) }
+    ensures { AppendsBytes out.old out.new (rows_body (rows_value rows.now)) }
 {
     write_head(rows, out);
     let width = rows.bytes_at - rows.columns_at - presents_size(rows.kind, rows.columns);
     write_padded_count(width, rows.columns, out);
     write_presents(rows.kind, rows.columns, out);
     out.extend_from_slice(rows.bytes).unwrap();
-    rows.kind.code()
 }
 
 /// Appends what comes before the number of columns. The extra data is zeros.

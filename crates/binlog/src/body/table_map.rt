@@ -1,7 +1,7 @@
 //! TABLE_MAP: which table the following rows events mean by a number. MySQL Source Documentation, "Binlog Event", the
 //! page `binary_log::Table_map_event`.
 
-ghost use Rattle.std.specs.Prelude.{◌≡◌, IfOk, OnErr, Err, ℕ, ◌+◌, ◌≤◌, List, length, drop, IfErr, MatchResult, Some, None, ◌++◌, ◌↔◌, take, map, OnOk, IsTrue, ◌<◌, vec_len, vec_capacity, IfSome, IfNone};
+ghost use Rattle.std.specs.Prelude.{◌≡◌, IfOk, OnErr, Err, ℕ, ◌+◌, ◌≤◌, List, length, drop, IfErr, MatchResult, Some, None, ◌↔◌, map, IsTrue, ◌<◌, vec_len, vec_capacity, IfSome, IfNone};
 ghost use Rattle.binlog.specs.Header.{header_length};
 ghost use Rattle.binlog.specs.Row.{kinds};
 ghost use Rattle.binlog.specs.declared.fault.EventFaultKind.TheVariants.{Memory};
