@@ -1,5 +1,5 @@
 -- What the writer of rows has written so far.
-use Rattle.binlog.proofs.Names.{◌≡◌, ℕ, zero, suc, ◌+◌, ◌-◌, ◌<◌, ◌≤◌, ◌^◌, ◌==◌, Bool, true, false, List, [], ◌∷◌, ◌++◌, length, get_or, take, map, sym, ap, subst, ◌∙◌, arith, nat_lt, nat_le, IsTrue, range_with_len, length-map-range_with_len, bitmap_size, and_parts, eqb-true, false≢true, leb-true, length-map, length-append, drop_of_length-le, little_bytes, length-bytes_low_first, CellValue, number_cell, bytes_cell, is_null, owned_value, owned_values, shape, kinds, owned_pairs, bitmap_byte, value_bytes, values_bytes, rows_bytes, value_fits, row_fits, pairs_fit, ColumnKind, ColumnType, RowsKind, Shape, Number, Fixed, Prefixed}
+use Rattle.binlog.proofs.Names.{◌≡◌, ℕ, zero, suc, ◌+◌, ◌-◌, ◌<◌, ◌≤◌, ◌^◌, ◌==◌, true, false, List, [], ◌∷◌, ◌++◌, length, get_or, take, map, sym, ap, subst, ◌∙◌, arith, nat_lt, nat_le, IsTrue, length-map-range_with_len, bitmap_size, and_parts, eqb-true, false≢true, leb-true, length-map, length-append, drop_of_length-le, little_bytes, length-bytes_low_first, CellValue, number_cell, bytes_cell, is_null, owned_value, owned_values, shape, kinds, owned_pairs, bitmap_byte, value_bytes, values_bytes, rows_bytes, value_fits, row_fits, pairs_fit, ColumnKind, ColumnType, RowsKind, Shape, Number, Fixed, Prefixed}
 use Rattle.std.proofs.Common.{drop, min}
 use Rattle.byteorder.proofs.Bytes.{take-bytes_low_first}
 use Rattle.binlog.specs.Shape.{is_readable}

@@ -1,4 +1,4 @@
-use Rattle.binlog.proofs.Names.{◌≡◌, ◌≤◌, ◌+◌, ◌++◌, ◌∙◌, subst, refl, sym, ap, take, length, rules, arith, length-append, owned_value, value_bytes}
+use Rattle.binlog.proofs.Names.{subst, refl, ap, take, length, rules, arith, length-append, owned_value}
 use Rattle.binlog.specs.Appending.{AppendsBytes}
 use Rattle.binlog.proofs.Appending.{appends_then}
 use Rattle.binlog.proofs.RowWriting.{number_written, prefixed_written}
