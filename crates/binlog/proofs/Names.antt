@@ -31,7 +31,7 @@ pub use Rattle.binlog.specs.declared.fault.EventFaultKind.{EventFaultKind}
 pub use Rattle.binlog.specs.declared.fault.EventFaultKind.TheVariants.{Truncated, Columns, Metadata, Size}
 pub use Rattle.byteorder.specs.Endian.{little_bytes, little_number}
 pub use Rattle.byteorder.specs.Numbers.{length-bytes_low_first, little_number-reads_back, little_from-lt}
-pub use Rattle.std.proofs.Common.{◌≡◌, ℕ, zero, suc, ◌+◌, ◌-◌, ◌*◌, ◌<◌, ◌≤◌, ◌==◌, false, not, List, [], ◌∷◌, ◌++◌, length, get_or, take, Option, Some, None, refl, sym, ap, ◌∙◌, arith, inl, inr, true, map, replicate, ◌^◌, Bool, codes, ◌&&◌, ◌||◌, Result, Ok, Err, OnErr, append_assoc, subst, ◌/◌, ◌%◌, rules}
+pub use Rattle.std.proofs.Common.{◌≡◌, ℕ, zero, suc, ◌+◌, ◌-◌, ◌*◌, ◌<◌, ◌≤◌, ◌==◌, false, not, List, [], ◌∷◌, ◌++◌, length, get_or, take, Option, Some, None, refl, sym, ap, ◌∙◌, arith, inl, inr, true, map, replicate, ◌^◌, Bool, codes, ◌&&◌, ◌||◌, Result, Ok, Err, append_assoc, subst, ◌/◌, ◌%◌, rules}
 pub use Rattle.std.proofs.Math.ListN.{drop_of_length-le}
 pub use Rattle.std.proofs.Math.Seq.{take-add}
 pub use Rattle.std.proofs.lemmas.Bool.{le-ltb, lt-ltb, le-leb, lt-leb, ne_eqb, eq-eqb, cases_lt, false≢true, and_parts, and_from, eqb-true, leb-true, not-false, ltb-false, cases_eq, ltb-true, cases_Bool}

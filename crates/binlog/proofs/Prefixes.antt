@@ -1,5 +1,5 @@
 -- Vectors to which bytes are appended, part by part.
-use Rattle.std.proofs.Common.{◌≡◌, ℕ, ◌+◌, ◌≤◌, List, [], ◌++◌, length, Vec, vec_len, vec_capacity, sym, ap, ◌∙◌, append_assoc, arith}
+use Rattle.std.proofs.Common.{◌≡◌, ℕ, ◌+◌, ◌≤◌, List, [], ◌++◌, length, Vec, vec_len, vec_capacity, Result, Ok, Err, OnOk, sym, ap, ◌∙◌, append_assoc, arith}
 use Rattle.std.proofs.lemmas.List.{append-nil, length-append}
 use Rattle.std.specs.declared.alloc.Global.{Global}
 use Rattle.binlog.specs.Appending.{AppendsBytes}
@@ -39,3 +39,10 @@ last_write {old} {now} {left} {all} w none = record {
   len = omega (arith, w.len, ap length none);
   capacity = w.capacity;
 }
+
+-- ---- A clause of success.
+
+-- one that holds of any answer
+pub on_ok : {T E P : Type 0} (r : Result T E) → P → OnOk r P
+on_ok (Ok x) p = p
+on_ok (Err e) p = tt
