@@ -209,6 +209,7 @@ impl Event<'_> {
     /// neutral event is written as IGNORABLE without a body.
     ///
     /// The only error is `Memory`: the vector lacks the room and cannot grow. It leaves the vector as it was.
+    #[tactic(auto, using(crate::proofs::EventBytes::writable_short))]
     pub fn write(&self, out: &mut Vec<u8>) -> Result<(), EventFault>
         requires { IsWritable (event_value self.now) }
         ensures ok { OnOk result (out.new.items ≡ out.old.items ++ event_bytes

@@ -5,8 +5,7 @@ ghost use Rattle.std.specs.Iterator.{YieldsFirstBy, item_count};
 ghost use Rattle.binlog.specs.Cell.{CellValue, cell_value, owned_values};
 ghost use Rattle.binlog.specs.Row.{kinds, is_set, IsRow, row_end};
 ghost use Rattle.binlog.specs.RowsWritten.{value_fits, row_fits, values_bytes, row_bytes};
-ghost use Rattle.binlog.specs.Appending.{AppendsBytes};
-ghost use Rattle.binlog.specs.Appending.{IsCapped};
+ghost use Rattle.binlog.specs.Appending.{AppendsBytes, IsCapped};
 
 use crate::bitmap::{has_set, is_set, write_bitmap};
 use crate::cell::{Cell, OwnedCell};
@@ -178,10 +177,8 @@ pub(crate) fn row_length(types: &[ColumnType], cells: &[OwnedCell]) -> usize
     requires { IsTrue (row_fits (kinds types.now) (owned_values cells.now)) }
     ensures { IsCapped result (length (row_bytes (kinds types.now) (owned_values cells.now))) }
 {
-    cells
-        .len()
-        .div_ceil(8)
-        .saturating_add(values_length(types, cells))
+    let bitmap = cells.len().div_ceil(8);
+    bitmap.saturating_add(values_length(types, cells))
 }
 
 /// How many bytes the values of the cells that are not null take, or `usize::MAX` if that is less.

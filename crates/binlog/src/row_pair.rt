@@ -98,9 +98,10 @@ pub(crate) fn pair_length(kind: RowsKind, types: &[ColumnType], pair: &OwnedPair
     match pair {
         OwnedPair::Insert { after } => row_length(types, after),
         OwnedPair::Delete { before } => row_length(types, before),
-        OwnedPair::Update { before, after } => row_length(types, before).saturating_add(row_length(
-            types, after,
-        )),
+        OwnedPair::Update { before, after } => {
+            let first = row_length(types, before);
+            first.saturating_add(row_length(types, after))
+        }
     }
 }
 

@@ -9,4 +9,4 @@ values_length-requires-clause-as_many c = as_many c.args.types.now c.args.cells.
 pub returns : goal.returns
 returns c =
     let cells = owned_values c.args.cells.now in
-    omega (arith, c.saturating_add.ensures, c.values_length.ensures, c.div_ceil.ensures, bitmap_long c.args.cells.now, length-append (bitmap_bytes (map is_null cells)) (values_bytes (kinds c.args.types.now) cells))
+    omega (arith, c.saturating_add.ensures, c.values_length.ensures, c.div_ceil-bitmap.ensures, bitmap_long c.args.cells.now, length-append (bitmap_bytes (map is_null cells)) (values_bytes (kinds c.args.types.now) cells))

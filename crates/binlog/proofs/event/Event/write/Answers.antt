@@ -1,15 +1,8 @@
-use Rattle.binlog.proofs.Names.{◌≡◌, ◌+◌, ◌++◌, ◌∙◌, length, rules, arith, event_value}
+use Rattle.binlog.proofs.Names.{◌≡◌, ◌+◌, ◌++◌, ◌∙◌, length, rules, event_value}
 use Rattle.binlog.specs.Appending.{AppendsBytes}
 use Rattle.binlog.specs.Writing.{header_bytes, event_code, event_body}
 use Rattle.binlog.proofs.Prefixes.{appends_then}
-use Rattle.binlog.proofs.EventBytes.{writable_short}
 use Rattle.binlog.proofs.event.Event.write.Goals as goal
-
-pub overflow_add-size : goal.overflow_add-size
-overflow_add-size c = omega (arith, writable_short (event_value c.args.self.now) c.requires, c.body_length-size.ensures)
-
-pub overflow_cast-size : goal.overflow_cast-size
-overflow_cast-size c = omega (arith, writable_short (event_value c.args.self.now) c.requires, c.body_length-size.ensures)
 
 pub returns-clause-ok : goal.returns-clause-ok
 returns-clause-ok c =
