@@ -1,5 +1,5 @@
 -- A store while the rows of one table are taken out of it.
-use Rattle.replica.proofs.Names.{◌≡◌, inl, inr, ℕ, arith, Bool, true, false, List, [], ◌∷◌, ◌++◌, length, Option, Some, None, Result, Ok, Err, IfErr, IsTrue, refl, sym, ap, subst, subst₂, ◌∙◌, append_assoc, append-nil, replicate, if◌then◌else◌, cases_Bool, false≢true, Ghosts, Trees, Held, Ids, CellValue, Names, admits, ChangeValue, Content, HasOutcome, done, AreDone, IsRefusedAt, Entry, StoreFault, ListError, Store, HasFailed, HoldsAs, AreOf, NoSuchRow, CountFull, Reason, EndOfInput, SourceEof, SourceError, Wire, Greet, Event, Gather, Refused, Database, Memory, ReadFailed, WriteFailed, Halted, Until, Account, HasNotices, StillWaits, WereMissed, has_failure, IsLeftOfNoted, IsNotedSinceOpening, IsLedOver, IsLedSinceOpening, TakesAlone, HasStayed}
+use Rattle.replica.proofs.Names.{◌≡◌, inl, inr, ℕ, arith, Bool, true, false, List, [], ◌∷◌, ◌++◌, length, Option, Some, None, Result, Ok, Err, IfErr, IsTrue, refl, sym, ap, subst, subst₂, ◌∙◌, append_assoc, append-nil, replicate, if◌then◌else◌, cases_Bool, false≢true, Ghosts, Trees, Held, Ids, CellValue, Names, admits, ChangeValue, Content, HasOutcome, done, AreDone, IsRefusedAt, Entry, StoreFault, ListError, Store, HasFailed, HoldsAs, AreOf, NoSuchRow, CountFull, Reason, Refused, Database, Memory, Halted, Account, HasNotices, StillWaits, WereMissed, has_failure, IsLeftOfNoted, IsNotedSinceOpening, IsLedOver, IsLedSinceOpening, TakesAlone, HasStayed}
 use Rattle.std.proofs.Common.{OnOk}
 use Rattle.std.specs.Prelude.{flat_map, MatchOption}
 use Rattle.std.specs.FinSet as set
@@ -278,23 +278,7 @@ module _ {S : Type 0} (g : Ghosts S) (settled : (h : Held S) (db : Trees) → Is
       };
     }
     by_answer (Err Halted) it = record { new = old; clears = (is, refl); stays = stays_whole after old _ (inl refl) it.1 }
-    by_answer (Err (Database fault.Memory)) it = absurd it
-    by_answer (Err (Database fault.Damaged)) it = absurd it
-    by_answer (Err (Database (fault.Layout n))) it = absurd it
-    by_answer (Err (Database fault.Broken)) it = absurd it
-    by_answer (Err (Database fault.Follows)) it = absurd it
-    by_answer (Err (Database (fault.NoSuchRow at))) it = absurd it
-    by_answer (Err (Database (fault.CountFull at))) it = absurd it
-    by_answer (Err EndOfInput) it = absurd it
-    by_answer (Err SourceEof) it = absurd it
-    by_answer (Err (SourceError code sql_state message)) it = absurd it
-    by_answer (Err (Wire f)) it = absurd it
-    by_answer (Err (Greet f)) it = absurd it
-    by_answer (Err (Event f)) it = absurd it
-    by_answer (Err (Gather f)) it = absurd it
-    by_answer (Err ReadFailed) it = absurd it
-    by_answer (Err WriteFailed) it = absurd it
-    by_answer (Err Until) it = absurd it
+    by_answer _ it = absurd it
 
   -- the tables are those of the store from before the list
   pub ends_by : (names : Names) (clear : TableClear) (before after : Store S g) (old : Content) (rows : ℕ) (changes : List ChangeValue) (answer : Result Bool Reason) (end : ClearEnd) → end ≡ end_by rows answer → before.following ≡ names → after.following ≡ before.following → IsToBeCleared names clear old

@@ -1,5 +1,5 @@
 -- Transactions that are given one at a time and applied in order.
-use Rattle.replica.proofs.Names.{◌≡◌, ◌++◌, ◌∷◌, [], ℕ, ◌+◌, ◌≤◌, ◌^◌, ◌-◌, arith, Bool, true, false, List, map, Option, Some, None, Err, IsTrue, inl, inr, refl, sym, ap, subst, ◌∙◌, append_assoc, append-nil, if◌then◌else◌, Ghosts, Trees, Held, Ids, Names, DeliveryValue, Content, HasOutcome, done, adopted, StoreFault, Store, AreOf, Reason, EndOfInput, SourceEof, SourceError, Wire, Greet, Event, Gather, Refused, Database, Memory, ReadFailed, WriteFailed, Halted, Until, NotAdopted, AppliesAll, IsRefusedBy, delivery_value, Supply, LeavesOnly, HasChanged}
+use Rattle.replica.proofs.Names.{◌≡◌, ◌++◌, ◌∷◌, [], ℕ, ◌+◌, ◌≤◌, ◌^◌, ◌-◌, arith, Bool, true, false, List, map, Option, Some, None, Err, IsTrue, inl, inr, refl, sym, ap, subst, ◌∙◌, append_assoc, append-nil, if◌then◌else◌, Ghosts, Trees, Held, Ids, Names, DeliveryValue, Content, HasOutcome, done, adopted, StoreFault, Store, AreOf, Reason, Refused, Database, Memory, Halted, Until, NotAdopted, AppliesAll, IsRefusedBy, delivery_value, Supply, LeavesOnly, HasChanged}
 use Rattle.std.proofs.Common.{IfNone}
 use Rattle.std.specs.Int.{from_bool}
 use Rattle.std.specs.Option.{option_to_list}
@@ -186,23 +186,7 @@ module _ {S : Type 0} (g : Ghosts S) (settled : (h : Held S) (db : Trees) → Is
       schema = (state g after.conn).now.schema;
       leaves = whole_leaves t.new after _ (inl refl) it.2.1;
     }
-    not_applied (Database fault.Memory) it = absurd it.2
-    not_applied (Database fault.Damaged) it = absurd it.2
-    not_applied (Database (fault.Layout n)) it = absurd it.2
-    not_applied (Database fault.Broken) it = absurd it.2
-    not_applied (Database fault.Follows) it = absurd it.2
-    not_applied (Database (fault.NoSuchRow at)) it = absurd it.2
-    not_applied (Database (fault.CountFull at)) it = absurd it.2
-    not_applied EndOfInput it = absurd it.2
-    not_applied SourceEof it = absurd it.2
-    not_applied (SourceError code sql_state message) it = absurd it.2
-    not_applied (Wire f) it = absurd it.2
-    not_applied (Greet f) it = absurd it.2
-    not_applied (Event f) it = absurd it.2
-    not_applied (Gather f) it = absurd it.2
-    not_applied ReadFailed it = absurd it.2
-    not_applied WriteFailed it = absurd it.2
-    not_applied Until it = absurd it.2
+    not_applied _ it = absurd it.2
 
     -- no further one was given, or the last one was not applied
     pub ended : {E : Type 0} (end : ChangeEnd E) → TakesNext g t.new before after mid rest (Err end) → HasChanged g names after old ids left applied end
