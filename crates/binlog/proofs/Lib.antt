@@ -19,7 +19,6 @@ pub mod Events
 pub mod RowBytes
 pub mod RowWriting
 pub mod LawfulColumns
-pub mod Prefixes
 pub mod ColumnBytes
 pub mod FullBitmap
 pub mod TableMapBytes

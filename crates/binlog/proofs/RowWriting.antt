@@ -126,16 +126,3 @@ pair_next types pairs i pair short is =
 
 pub pairs_end : (types : List ColumnKind) (pairs : List OwnedPair) (i : ℕ) → length pairs ≤ i → rows_from types pairs i ≡ []
 pairs_end types pairs i past = ap (rows_bytes types) (drop_of_length-le (owned_pairs pairs) (omega (arith, past, length-map pairs owned_pair)))
-
--- ---- Lengths that are summed up to the highest number.
-
--- the sum so far and the length that is left
-pub record Sums (sum left all : ℕ) : Type 0 where
-  pub is : min (sum + left) (2 ^ 64 - 1) ≡ min all (2 ^ 64 - 1)
-  pub small : sum ≤ 2 ^ 64 - 1
-
-pub sum_next : {sum left all : ℕ} (part rest next total : ℕ) → Sums sum left all → left ≡ part + rest → next ≡ min part (2 ^ 64 - 1) → total ≡ min (sum + next) (2 ^ 64 - 1) → Sums total rest all
-sum_next part rest next total so_far first is more = record { is = omega (arith, so_far.is, so_far.small, first, is, more); small = omega (arith, more) }
-
-pub sum_all : {sum left all : ℕ} → Sums sum left all → left ≡ 0 → sum ≡ min all (2 ^ 64 - 1)
-sum_all so_far none = omega (arith, so_far.is, so_far.small, none)

@@ -19,6 +19,5 @@ pub mod EventView
 pub mod Columns
 pub mod ColumnsView
 pub mod TableView
-pub mod Appending
 pub mod Writing
 pub mod Origin

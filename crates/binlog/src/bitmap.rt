@@ -6,7 +6,7 @@ ghost use Rattle.binlog.specs.Table.{most_columns};
 ghost use Rattle.binlog.specs.Row.{is_set};
 ghost use Rattle.binlog.specs.RowsWritten.{bits_number, digit, bitmap_byte, bitmap_bytes};
 ghost use Rattle.binlog.specs.Writing.{full_bitmap};
-ghost use Rattle.binlog.specs.Appending.{AppendsBytes};
+ghost use Rattle.gtid.specs.Appending.{AppendsBytes};
 ghost use Rattle.binlog.specs.Cell.{is_null, owned_values};
 
 use crate::cell::OwnedCell;

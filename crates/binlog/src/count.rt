@@ -6,7 +6,7 @@ ghost use Rattle.wire.specs.Integer.{IsLengthEncoded, length_encoded};
 ghost use Rattle.binlog.specs.Table.{most_columns};
 ghost use Rattle.binlog.specs.Count.{count_width, count_at, no_count};
 ghost use Rattle.binlog.specs.Writing.{count_bytes};
-ghost use Rattle.binlog.specs.Appending.{AppendsBytes};
+ghost use Rattle.gtid.specs.Appending.{AppendsBytes};
 
 use crate::fault::{EventFault, EventFaultKind};
 use wire::lenenc::{EIGHT_BYTES, MOST_IN_ONE_BYTE, THREE_BYTES, TWO_BYTES};

@@ -9,7 +9,7 @@ ghost use Rattle.binlog.specs.Filter.{admits};
 ghost use Rattle.binlog.specs.Event.{EventValue, HasBody, IsEvent, type_fault, table_map_fault, body_fault, event_fault, gtid};
 ghost use Rattle.binlog.specs.EventView.{event_value, filter_of};
 ghost use Rattle.binlog.specs.Writing.{IsWritable, event_code, event_body, event_bytes};
-ghost use Rattle.binlog.specs.Appending.{AppendsBytes};
+ghost use Rattle.gtid.specs.Appending.{AppendsBytes};
 ghost use Rattle.binlog.specs.declared.fault.EventFaultKind.TheVariants.{Memory};
 
 use crate::body::format::{FORMAT, read_format, write_format};

@@ -5,7 +5,7 @@ ghost use Rattle.std.specs.Iterator.{YieldsFirstBy, item_count};
 ghost use Rattle.binlog.specs.Cell.{CellValue, cell_value, owned_values};
 ghost use Rattle.binlog.specs.Row.{kinds, is_set, IsRow, row_end};
 ghost use Rattle.binlog.specs.RowsWritten.{value_fits, row_fits, values_bytes, row_bytes};
-ghost use Rattle.binlog.specs.Appending.{AppendsBytes, IsCapped};
+ghost use Rattle.gtid.specs.Appending.{AppendsBytes, IsCapped};
 
 use crate::bitmap::{has_set, is_set, write_bitmap};
 use crate::cell::{Cell, OwnedCell};

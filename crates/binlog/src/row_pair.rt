@@ -4,7 +4,7 @@ ghost use Rattle.std.specs.Prelude.{◌+◌, ◌<◌, ◌≤◌, ◌^◌, length
 ghost use Rattle.binlog.specs.Row.{kinds};
 ghost use Rattle.binlog.specs.RowsView.{owned_pair};
 ghost use Rattle.binlog.specs.RowsWritten.{pair_bytes, row_fits, pair_fits};
-ghost use Rattle.binlog.specs.Appending.{AppendsBytes, IsCapped};
+ghost use Rattle.gtid.specs.Appending.{AppendsBytes, IsCapped};
 
 use crate::body::rows_event::RowsKind;
 use crate::cell::OwnedCell;

@@ -4,7 +4,7 @@ ghost use Rattle.std.specs.Prelude.{◌+◌, ◌<◌, ◌≤◌, ◌^◌, length
 ghost use Rattle.binlog.specs.Row.{kinds};
 ghost use Rattle.binlog.specs.RowsView.{owned_pairs};
 ghost use Rattle.binlog.specs.RowsWritten.{HaveRows, rows_bytes, pair_fits, pairs_fit};
-ghost use Rattle.binlog.specs.Appending.{AppendsBytes, IsCapped};
+ghost use Rattle.gtid.specs.Appending.{AppendsBytes, IsCapped};
 ghost use Rattle.binlog.specs.declared.fault.EventFaultKind.TheVariants.{Memory};
 
 use crate::body::rows_event::{RowsEvent, RowsKind};

@@ -1,7 +1,5 @@
 -- Parts that are appended one after the other.
-use Rattle.std.proofs.Common.{◌≡◌, ℕ, zero, suc, ◌+◌, ◌<◌, ◌≤◌, true, List, [], ◌∷◌, length, get_or, take, flat_map, Result, Ok, Err, arith}
-use Rattle.std.specs.Prelude.{OnErr}
-use Rattle.std.specs.Result.{is_err}
+use Rattle.std.proofs.Common.{ℕ, zero, suc, ◌+◌, ◌<◌, ◌≤◌, List, [], ◌∷◌, length, get_or, take, flat_map, arith}
 use Rattle.std.proofs.lemmas.List.{length-append}
 
 -- the parts before one of them, and that one, are no longer than all
@@ -11,7 +9,3 @@ parts_fit f (x ∷ xs) zero d lt = omega (arith, length-append (f x) (flat_map f
 parts_fit f (x ∷ xs) (suc i) d lt =
     let h = parts_fit f xs i d (omega (arith, lt)) in
     omega (arith, h, length-append (f x) (flat_map f (take i xs)), length-append (f x) (flat_map f xs))
-
-pub at_error : {T E P : Type 0} (r : Result T E) → is_err r ≡ true → OnErr r P → P
-at_error (Ok x) is p = absurd cc
-at_error (Err e) is p = p

@@ -1,6 +1,6 @@
 //! Parts of messages.
 
-ghost use Rattle.std.specs.Prelude.{◌≡◌, ◌<◌, ◌+◌, ◌++◌, ◌∷◌, length, flat_map, IfSome, IfNone, IsTrue, ◌↔◌, OnOk, OnErr, Err, vec_len, vec_capacity};
+ghost use Rattle.std.specs.Prelude.{◌≡◌, ◌<◌, ◌+◌, ◌-◌, ◌^◌, min, ◌++◌, ◌∷◌, length, flat_map, IfSome, IfNone, IsTrue, ◌↔◌, OnOk, OnErr, Err, vec_len, vec_capacity};
 ghost use Rattle.greet.specs.Message.{IsText};
 
 use crate::fault::GreetFault;
@@ -35,12 +35,20 @@ pub(crate) fn append(parts: &[&[u8]], out: &mut Vec<u8>) -> Result<(), GreetFaul
     ensures full { OnErr result (vec_capacity out.old
         < vec_len out.old + length (flat_map (λ part. part.now) parts.now)) }
 {
-    let len = out.len();
+    out.reserve(parts_length(parts))?;
     for part in parts {
-        if out.extend_from_slice(part).is_err() {
-            out.truncate(len);
-            return Err(GreetFault::Memory);
-        }
+        out.extend_from_slice(part).unwrap();
     }
     Ok(())
+}
+
+/// How many bytes the parts have, or `usize::MAX` if that is less.
+fn parts_length(parts: &[&[u8]]) -> usize
+    ensures { result ≡ min (length (flat_map (λ part. part.now) parts.now)) (2 ^ 64 - 1) }
+{
+    let mut sum: usize = 0;
+    for part in parts {
+        sum = sum.saturating_add(part.len());
+    }
+    sum
 }

@@ -80,10 +80,6 @@ any_default [] k g short is d = absurd (omega (arith, short))
 any_default (f ∷ groups) zero g short is d = sym is
 any_default (f ∷ groups) (suc k) g short is d = any_default groups k g (omega (arith, short)) is d
 
-pub on_ok_both : {T E P Q R : Type 0} (r : Result T E) → OnOk r P → OnOk r Q → (P → Q → R) → OnOk r R
-on_ok_both (Ok x) p q f = f p q
-on_ok_both (Err e) p q f = tt
-
 -- the same GTIDs, if the source's group has the same numbers
 pub listed_same : (groups : List Group) (k : ℕ) (old new : Group) (s : List ℕ) → k < length groups → ((d : Group) → slice_index_or groups k d ≡ old) → old.source ≡ s → new.source ≡ s →
     new.intervals.items ≡ old.intervals.items → (q : Id) → is_listed q (slice_set groups k new) ≡ is_listed q groups

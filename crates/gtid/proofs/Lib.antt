@@ -9,9 +9,10 @@ pub mod Lowest
 pub mod GroupMerge
 pub mod OneLeastList
 pub mod SourcePlace
-pub mod AsciiText
+pub mod GroupText
 pub mod Sets
 pub mod Within
+pub mod Appending
 pub mod ByteLists
 pub mod SourceText
 pub mod ScanComplete

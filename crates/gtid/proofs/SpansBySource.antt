@@ -1,7 +1,5 @@
 -- The spans of groups, grouped by source.
-use Rattle.gtid.proofs.Names.{◌≡◌, ◌≢◌, ℕ, suc, ◌+◌, ◌<◌, ◌^◌, length, arith, Option, Some, None, Bool, true, false, if◌then◌else◌, List, [], ◌∷◌, ◌++◌, map, refl, ap, sym, subst, ◌∙◌, Result, Ok, Err, Less, nat_cmp, is_lt, slice_cmp, bytes_eq, length-map, bytes_eq-Decides, Ids, AreLeast, Ascend, IsBelow, spans_of, SidBlock, AreSidBlocks, is_above, join_block, blocks_bytes, IsEncoding, of_group, Interval, Group, Span}
-use Rattle.std.proofs.Common.{OnOk}
-use Rattle.std.specs.Prelude.{OnErr}
+use Rattle.gtid.proofs.Names.{◌≡◌, ◌≢◌, ℕ, suc, ◌+◌, ◌<◌, ◌^◌, length, arith, Option, Some, None, Bool, true, false, if◌then◌else◌, List, [], ◌∷◌, ◌++◌, map, refl, ap, sym, subst, ◌∙◌, Less, nat_cmp, is_lt, slice_cmp, bytes_eq, length-map, bytes_eq-Decides, Ids, AreLeast, Ascend, IsBelow, spans_of, SidBlock, AreSidBlocks, is_above, join_block, blocks_bytes, IsEncoding, of_group, Interval, Group, Span}
 use Rattle.gtid.specs.Group.{sources, ids_of}
 use Rattle.gtid.specs.Spans.{span}
 use Rattle.gtid.specs.Encoding.{grouped, AppendsEncoding, LacksRoom}
@@ -95,26 +93,16 @@ encodes groups ascend fits = record {
   spelled = ap blocks_bytes (sym (grouped_groups groups ascend));
 }
 
-appends : (groups all : List Group) (ids : Ids) (old new : List ℕ) → Ascend (sources all) → length all < 2 ^ 64 → groups ≡ all → ids_of all ≡ ids → new ≡ old ++ blocks_bytes (blocks groups) → AppendsEncoding ids old new
+pub appends : (groups all : List Group) (ids : Ids) (old new : List ℕ) → Ascend (sources all) → length all < 2 ^ 64 → groups ≡ all → ids_of all ≡ ids → new ≡ old ++ blocks_bytes (blocks groups) → AppendsEncoding ids old new
 appends groups all ids old new ascend fits same is written = record {
   bytes = blocks_bytes (blocks all);
   encodes = subst (λ x. IsEncoding x (blocks_bytes (blocks all))) is (encodes all ascend fits);
   appended = written ∙ ap (λ g. old ++ blocks_bytes (blocks g)) same;
 }
 
-lacks : (groups all : List Group) (ids : Ids) (len capacity : ℕ) → Ascend (sources all) → length all < 2 ^ 64 → groups ≡ all → ids_of all ≡ ids → capacity < len + length (blocks_bytes (blocks groups)) → LacksRoom ids len capacity
+pub lacks : (groups all : List Group) (ids : Ids) (len capacity : ℕ) → Ascend (sources all) → length all < 2 ^ 64 → groups ≡ all → ids_of all ≡ ids → capacity < len + length (blocks_bytes (blocks groups)) → LacksRoom ids len capacity
 lacks groups all ids len capacity ascend fits same is lacking = record {
   bytes = blocks_bytes (blocks all);
   encodes = subst (λ x. IsEncoding x (blocks_bytes (blocks all))) is (encodes all ascend fits);
   lacks = subst (λ g. capacity < len + length (blocks_bytes (blocks g))) same lacking;
 }
-
-pub lacks_on_err : {T E : Type 0} (r : Result T E) (groups all : List Group) (ids : Ids) (len capacity : ℕ) → Ascend (sources all) → length all < 2 ^ 64 → groups ≡ all → ids_of all ≡ ids →
-    OnErr r (capacity < len + length (blocks_bytes (blocks groups))) → OnErr r (LacksRoom ids len capacity)
-lacks_on_err (Ok x) groups all ids len capacity ascend fits same is lacking = tt
-lacks_on_err (Err e) groups all ids len capacity ascend fits same is lacking = lacks groups all ids len capacity ascend fits same is lacking
-
-pub appends_on_ok : {T E : Type 0} (r : Result T E) (groups all : List Group) (ids : Ids) (old new : List ℕ) → Ascend (sources all) → length all < 2 ^ 64 → groups ≡ all → ids_of all ≡ ids →
-    OnOk r (new ≡ old ++ blocks_bytes (blocks groups)) → OnOk r (AppendsEncoding ids old new)
-appends_on_ok (Ok x) groups all ids old new ascend fits same is written = appends groups all ids old new ascend fits same is written
-appends_on_ok (Err e) groups all ids old new ascend fits same is written = tt

@@ -1,6 +1,5 @@
 -- Private: groups as blocks of bytes.
-use Rattle.std.specs.Prelude.{◌≡◌, ℕ, List, ◌++◌, map}
-use Rattle.std.specs.Str.{IsAscii}
+use Rattle.std.specs.Prelude.{ℕ, List, map}
 use Rattle.gtid.specs.Encoding.{SidBlock}
 use Rattle.gtid.specs.declared.interval.Interval.{Interval}
 use Rattle.gtid.specs.declared.group.Group.{Group}
@@ -16,14 +15,3 @@ of_group g = block g.source g.intervals.items
 
 abbrev pub blocks : List Group → List SidBlock
 blocks groups = map of_group groups
-
--- The new bytes are the old ones and more after them.
-pub record Grows (old new : List ℕ) : Type 0 where
-  pub more : List ℕ
-  pub grown : new ≡ old ++ more
-
--- The new bytes are the old ones and more ASCII bytes after them.
-pub record GrowsByAscii (old new : List ℕ) : Type 0 where
-  pub more : List ℕ
-  pub grown : new ≡ old ++ more
-  pub ascii : IsAscii more

@@ -10,6 +10,7 @@ pub mod Spans
 pub mod Beside
 pub mod Encoding
 pub mod Decoding
+pub mod Appending
 pub mod Blocks
 pub mod Text
 pub mod Scan

@@ -39,16 +39,22 @@ step After b = if is_blank b then Some After else if b == 44 then Some Item else
 
 -- whether the text may end there
 abbrev pub ends : State → Bool
-ends Item = false
-ends (Source place) = false
-ends First = false
-ends Second = false
-ends _ = true
+ends Start = true
+ends Lo = true
+ends Hi = true
+ends After = true
+ends _ = false
 
 -- At most the 36 bytes of a UUID were read.
 abbrev pub IsPlaced : State → Type 0
 IsPlaced (Source place) = place ≤ 36
-IsPlaced _ = Unit {0}
+IsPlaced Start = Unit {0}
+IsPlaced Item = Unit {0}
+IsPlaced First = Unit {0}
+IsPlaced Lo = Unit {0}
+IsPlaced Second = Unit {0}
+IsPlaced Hi = Unit {0}
+IsPlaced After = Unit {0}
 
 -- the state after a byte, if there was one before it
 abbrev pub stepped : Option State → ℕ → Option State

@@ -12,7 +12,7 @@ ghost use Rattle.gtid.specs.Text.{IsRead, IsParseFault, AppendsText, LacksTextRo
 
 use crate::combination::Combination;
 use crate::decoding::read_groups;
-use crate::encoding::write_groups;
+use crate::encoding::{encoded_length, write_groups};
 use crate::fault::GtidFault;
 use crate::gathering::gather;
 use crate::grammar::scan;
@@ -27,7 +27,7 @@ use crate::reading::read_spans;
 use crate::reserved::{Entry, Reserved};
 use crate::span::Span;
 use crate::spans::Spans;
-use crate::text::print_groups;
+use crate::text::{print_groups, text_length};
 use std::alloc::Global;
 use std::marker::Model;
 
@@ -184,12 +184,9 @@ impl GtidSet {
             × (out.new.items ≡ out.old.items)) }
         ensures full { OnErr result (LacksRoom self.now (vec_len out.old) (vec_capacity out.old)) }
     {
-        let len = out.len();
-        let written = write_groups(&self.groups, out);
-        if written.is_err() {
-            out.truncate(len);
-        }
-        written
+        out.reserve(encoded_length(&self.groups))?;
+        write_groups(&self.groups, out);
+        Ok(())
     }
 
     /// Reads the encoded set at the front of the bytes, and returns it with the number of bytes that it takes.
@@ -268,11 +265,8 @@ impl GtidSet {
         ensures full { OnErr result (LacksTextRoom self.now (string_len out.old)
             (string_capacity out.old)) }
     {
-        let start = out.len();
-        let printed = print_groups(&self.groups, out);
-        if printed.is_err() {
-            out.truncate(start);
-        }
-        printed
+        out.reserve(text_length(&self.groups))?;
+        print_groups(&self.groups, out);
+        Ok(())
     }
 }

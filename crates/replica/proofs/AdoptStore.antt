@@ -1,5 +1,5 @@
 -- A store to whose executed set another set was added.
-use Rattle.replica.proofs.Names.{◌≡◌, inl, inr, Option, Result, Ok, Err, IsTrue, refl, sym, subst, Ghosts, Trees, Held, Ids, Content, adopted, StoreFault, Store, AreOf}
+use Rattle.replica.proofs.Names.{◌≡◌, inl, inr, Ok, Err, IsTrue, refl, sym, subst, Ghosts, Trees, Held, Ids, Content, adopted, StoreFault, Store, AreOf}
 use Rattle.std.specs.FinSet as set
 use Rattle.sqlite.specs.Held.{state}
 use Rattle.store.specs.declared.fault.StoreFault.TheVariants as fault

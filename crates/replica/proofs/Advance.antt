@@ -1,5 +1,5 @@
 -- One step of a session: some bytes, and what they complete.
-use Rattle.replica.proofs.Names.{◌≡◌, ℕ, Bool, true, false, List, [], ◌++◌, refl, sym, ap, ◌∙◌, inl, inr, Option, Some, None, is_some, unwrap_or, subst, true≢false, WireFault, ReaderState, IsWholePayload, IsUnfinished, Payload, Names, Gatherer, Ghosts, Schema, Content, Store, EndOfInput, Memory, Wire, Ended, Phase, Session, Settings, IsWrong, IsLeftOfOne, GoesOn, HasEnded, HasPayload, end_of, StandsOver, LeavesOnly}
+use Rattle.replica.proofs.Names.{◌≡◌, ℕ, Bool, true, false, List, [], ◌++◌, refl, sym, ap, ◌∙◌, inl, inr, Option, Some, None, is_some, unwrap_or, subst, true≢false, WireFault, IsWholePayload, IsUnfinished, Payload, Names, Ghosts, Schema, Content, Store, EndOfInput, Memory, Wire, Ended, Session, IsWrong, IsLeftOfOne, GoesOn, HasEnded, HasPayload, end_of, StandsOver, LeavesOnly}
 use Rattle.std.proofs.Common.{IfSome, IfNone}
 use Rattle.wire.specs.declared.fault.WireFault.TheVariants as wire
 use Rattle.wire.specs.Payload.{IsOutOfSequence, IsTooLarge}

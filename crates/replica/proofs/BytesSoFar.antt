@@ -1,5 +1,5 @@
 -- Bytes that were fed to a session, and more of them.
-use Rattle.replica.proofs.Names.{◌≡◌, ℕ, ◌+◌, ◌≤◌, Bool, List, [], ◌++◌, length, take, refl, sym, ap, ◌∙◌, subst, append_assoc, append-nil, None, arith, ◌-◌, take-append-drop, Ghosts, Schema, HasCleanDisk, Content, Store, Session, room_of, StandsOver}
+use Rattle.replica.proofs.Names.{◌≡◌, ℕ, ◌+◌, ◌≤◌, List, [], ◌++◌, length, take, refl, sym, ap, ◌∙◌, subst, append_assoc, append-nil, None, arith, ◌-◌, take-append-drop, Ghosts, Schema, HasCleanDisk, Store, Session, room_of, StandsOver}
 use Rattle.std.proofs.Common.{drop}
 use Rattle.std.proofs.lemmas.List.{length-take-le, length-drop}
 use Rattle.sqlite.specs.Held.{state}

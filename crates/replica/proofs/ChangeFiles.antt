@@ -1,5 +1,5 @@
 -- A database file that was changed by transactions that no connection carries.
-use Rattle.replica.proofs.Names.{◌≡◌, ℕ, Bool, true, false, List, [], Result, Ok, Err, IfOk, IfErr, refl, subst, ◌∙◌, arith, Files, AreClean, IsClean, Schema, FileStore, SeenMayStay, settled_at, Error, HasCleanDisk, over_files, file_state, IsClosed, FailsToClose, IsCopied, Ids, Names, Content, Store, database, IsLeft, NotAdopted, KeepsContent, Account, has_failure, IsLeftOfNoted, IsNotedSinceOpening, IsLedSinceOpening, Supply, LeavesOnly, HasChanged}
+use Rattle.replica.proofs.Names.{◌≡◌, ℕ, Bool, true, false, [], Result, Ok, Err, IfOk, IfErr, refl, subst, ◌∙◌, arith, Files, AreClean, IsClean, Schema, FileStore, SeenMayStay, settled_at, Error, HasCleanDisk, over_files, file_state, IsClosed, FailsToClose, IsCopied, Ids, Names, Content, Store, database, IsLeft, NotAdopted, KeepsContent, Account, has_failure, IsLeftOfNoted, IsNotedSinceOpening, IsLedSinceOpening, Supply, LeavesOnly, HasChanged}
 use Rattle.sqlite_disk.specs.declared.Disk.{Ghosts}
 use Rattle.sqlite_trees.specs.declared.store.Store.{Ghosts as StoreGhosts}
 use Rattle.sqlite_store.specs.FileStore.{view}

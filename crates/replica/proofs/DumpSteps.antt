@@ -1,5 +1,5 @@
 -- A session over a store takes a payload.
-use Rattle.replica.proofs.Names.{◌≡◌, ◌≢◌, ◌⊎◌, ℕ, ◌+◌, ◌^◌, ◌<◌, Bool, true, false, List, [], ◌∷◌, ◌++◌, length, Some, None, unwrap_or, IsTrue, inl, inr, refl, sym, ap, subst, ◌∙◌, append-nil, arith, length-append, true≢false, Ghosts, Trees, Schema, Held, packing_length, ReaderState, IsUnfinished, Payload, nothing_yet, Names, DeliveryValue, Gatherer, Error, Content, HasOutcome, done, StoreFault, Store, HoldsAs, AreOf, Reason, EndOfInput, SourceEof, SourceError, Greet, Event, Gather, Refused, Database, Memory, Halted, Until, Ended, Phase, Session, Settings, Hello, InDump, IsInDump, Answers, next_due, next_id, due_after, due_from, Denies, EndsLog, AppliesAll, Why, BreaksStore, GoesOn, HasEnded, HasPayload, due_of, end_of, IsLeftOfOne, GathersMore, LeavesOnly, StandsOver}
+use Rattle.replica.proofs.Names.{◌≡◌, ◌≢◌, ◌⊎◌, ℕ, ◌+◌, ◌^◌, ◌<◌, Bool, true, false, List, [], ◌∷◌, ◌++◌, length, Some, None, unwrap_or, IsTrue, inl, inr, refl, sym, ap, subst, ◌∙◌, append-nil, arith, length-append, true≢false, Ghosts, Trees, Schema, Held, packing_length, IsUnfinished, Payload, nothing_yet, Names, DeliveryValue, Gatherer, Error, Content, HasOutcome, done, StoreFault, Store, HoldsAs, AreOf, Reason, EndOfInput, SourceEof, SourceError, Greet, Event, Gather, Refused, Database, Memory, Halted, Until, Ended, Session, Settings, Hello, InDump, IsInDump, Answers, next_due, next_id, due_after, due_from, Denies, EndsLog, AppliesAll, Why, BreaksStore, GoesOn, HasEnded, HasPayload, due_of, end_of, IsLeftOfOne, GathersMore, LeavesOnly, StandsOver}
 use Rattle.sqlite.specs.Held.{state}
 use Rattle.store.specs.declared.fault.StoreFault.TheVariants as fault
 use Rattle.store.specs.Store.{Holds}

@@ -1,5 +1,5 @@
 -- What a call keeps that may change a store: of one that does nothing, and of one after another.
-use Rattle.replica.proofs.Names.{◌≡◌, ◌≢◌, ◌∙◌, List, [], ◌∷◌, ◌++◌, Bool, true, false, refl, sym, subst, Ghosts, HasCleanDisk, Ids, Content, Store, HoldsAs, database, Ended, Account, HasNotices, WasMissing, IsLedSinceOpening, ended, KeepsStore, KeepsObserved, KeepsSinceOpening}
+use Rattle.replica.proofs.Names.{◌≡◌, ◌≢◌, ◌∙◌, List, [], ◌∷◌, ◌++◌, Bool, false, refl, sym, subst, Ghosts, HasCleanDisk, Ids, Content, Store, HoldsAs, database, Ended, Account, HasNotices, WasMissing, IsLedSinceOpening, ended, KeepsStore, KeepsObserved, KeepsSinceOpening}
 use Rattle.std.specs.Prelude.{not}
 use Rattle.store.specs.Store.{IsBroken}
 use Rattle.replica.specs.Noted.{HasNoNotice, opened}

@@ -3,7 +3,7 @@ use Rattle.replica.proofs.Names.{◌≡◌, ℕ, Bool, true, false, List, [], �
 use Rattle.gather.specs.Standing.{HasGathered as Gathers}
 use Rattle.replica.specs.declared.phase.Login.TheVariants.{Greeting}
 use Rattle.replica.specs.declared.phase.Phase.TheVariants.{Login}
-use Rattle.replica.specs.Standing.{Parts, Position, parts_of, from_start, reads_on, sends_on, Stands}
+use Rattle.replica.specs.Standing.{Position, parts_of, from_start, reads_on, sends_on, Stands}
 use Rattle.replica.proofs.Extend.{conn-append, sent-append}
 
 -- nothing is read

@@ -1,5 +1,5 @@
 -- What an end reports.
-use Rattle.replica.proofs.Names.{◌≡◌, ◌⊎◌, ap, ℕ, Bool, List, ◌++◌, length, refl, inl, inr, Some, None, MatchOption, unwrap_or, Names, Content, Reason, EndOfInput, SourceEof, SourceError, Wire, Greet, Event, Gather, Ended, Session, Reading, End, StopsFor, Conn, AppliesFirst, Why, IsDumpTooLong, GoesOn, HasEnded, end_of}
+use Rattle.replica.proofs.Names.{◌≡◌, ◌⊎◌, ap, ℕ, Bool, List, length, refl, inl, inr, Some, None, MatchOption, unwrap_or, Names, Content, Reason, EndOfInput, SourceEof, SourceError, Wire, Greet, Event, Gather, Ended, Session, Reading, End, StopsFor, Conn, AppliesFirst, Why, IsDumpTooLong, GoesOn, HasEnded, end_of}
 use Rattle.std.proofs.Common.{◌↔◌}
 use Rattle.wire.specs.declared.fault.WireFault.TheVariants as wire
 use Rattle.replica.specs.End.{rest_of}

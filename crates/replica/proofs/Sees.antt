@@ -1,10 +1,10 @@
 -- What an observer is given of a payload of the dump.
-use Rattle.replica.proofs.Names.{◌≡◌, ◌⊎◌, ◌≤◌, ◌-◌, ℕ, Bool, true, false, List, [], ◌∷◌, ◌++◌, take, length, Option, Some, None, Result, Ok, Err, get_or, inl, inr, refl, sym, ap, subst, ◌∙◌, append_assoc, append-nil, true≢false, Payload, Names, EventValue, IsEvent, DeliveryValue, Gatherer, Reason, begins_event, Carries, GathersMore, Account}
+use Rattle.replica.proofs.Names.{◌≡◌, ◌≤◌, ◌-◌, ℕ, Bool, false, List, [], ◌∷◌, ◌++◌, take, length, Option, Some, None, Result, Ok, Err, get_or, inl, inr, refl, sym, ap, subst, ◌∙◌, append_assoc, append-nil, true≢false, Payload, Names, EventValue, IsEvent, DeliveryValue, Gatherer, Reason, begins_event, Carries, GathersMore, Account}
 use Rattle.std.proofs.Common.{drop}
 use Rattle.wire.proofs.Cuts.{begun_by}
 use Rattle.gather.specs.Standing.{ArePending}
 use Rattle.replica.specs.Noted.{Seen, event_read, refused_payload, HasBeenSeen}
-use Rattle.replica.specs.Sees.{IsEventSeen, SeesEvent, IsSeenLast, SeesPayload}
+use Rattle.replica.specs.Sees.{SeesEvent, IsSeenLast, SeesPayload}
 
 -- ---- lists of what was seen
 seen_none : (seen : Option (List Seen)) → HasBeenSeen seen seen []

@@ -1,5 +1,5 @@
 -- Captured connections that were read in order.
-use Rattle.std.specs.Prelude.{◌≡◌, ℕ, Bool, List, [], ◌∷◌, ◌++◌, length, take, slice_get, Option, Some, Result, Ok, Err, option_to_list}
+use Rattle.std.specs.Prelude.{◌≡◌, ◌≢◌, ◌≤◌, ℕ, Bool, true, false, List, [], ◌∷◌, ◌++◌, length, take, slice_get, Option, Some, Result, Ok, Err, option_to_list, All}
 use Rattle.std.specs.Io.KnownBytes.{Consumes, IsAtEnd}
 use Rattle.sqlite_trees.specs.declared.store.Store.{Ghosts}
 use Rattle.store.specs.State.{Content}
@@ -11,6 +11,7 @@ use Rattle.replica.specs.declared.end.Reason.TheVariants.{EndOfInput}
 use Rattle.replica.specs.declared.end.Ended.{Ended}
 use Rattle.replica.specs.Conn.{StoreState}
 use Rattle.replica.specs.Over.{HasRead}
+use Rattle.replica.specs.Noted.{Account, MayEnd}
 
 module _ {R : Type 0} (left : R → Option (List ℕ)) where
   -- These bytes came of the capture: its first byte, and the next ones of its reader.
@@ -71,3 +72,14 @@ module _ {S : Type 0} (g : Ghosts S) {R : Type 0} (left : R → Option (List ℕ
     pub comes : ComesOf left capture b
     pub unended : end.reason ≡ EndOfInput
     pub has_read : HasRead g limit before after was old b end
+
+-- How an observer stops the reading of captures. `was` and `is` are its accounts before and afterwards.
+pub record HeedsObserver (was is : Account) (ends : List Ended) (read : Result (Unit {0}) Halt) : Type 0 where
+  -- Captures are left unread for the observer only if it has stopped.
+  pub asked : read ≡ Err Observer → is.has_stopped ≡ true
+  -- No connection is ended by a failure of a stream, and one is halted, or ended with `Until`, only if the observer asked for that.
+  pub may_end : All (λ end. MayEnd end.reason is) ends
+  -- If all captures were read, and there was one, it has not stopped.
+  pub heeds : read ≡ Ok tt → ends ≢ [] → is.has_stopped ≡ false
+  -- If it had stopped before, one capture at most was read.
+  pub no_more : was.has_stopped ≡ true → length ends ≤ 1

@@ -99,7 +99,7 @@ MayBeMissing executed (commit_line id) = Unit {0}
 MayBeMissing executed (rollback_line id) = set.contains executed id ≡ false
 
 -- A run over a database of the first content has left one of the second, and these are its lines in the feed. What is said of what was
--- reported is the clause `notes` of the functions that report.
+-- reported is `notes` of the functions that report: a clause, or a field of the clause `noted`.
 pub record IsFed (names : Names) (old left : Content) (lines : List Line) : Type 0 where
   pub notices : List Notice
   pub new : Content

@@ -39,6 +39,11 @@ abbrev pub FilesHold : Names → Names → Content → Image → Type 0
 FilesHold only names content image =
     (HoldNone image × (names ≡ only) × (content ≡ nothing)) ⊎ ((trees : Trees) × ∥ HoldsDatabase image trees ∥₁ × IsLeft only names content trees)
 
+-- `Is` holds of the tables and the content of the database that the files held, or of the empty one, if none was there. Of files that
+-- held something else nothing is said.
+abbrev pub OfHeld : Option Names → Image → (Names → Content → Type 0) → Type 0
+OfHeld wanted image Is = (names : Names) (content : Content) → FilesHold (names_for wanted) names content image → Is names content
+
 -- Whatever a crash may leave of the database is opened as this content, with these tables.
 abbrev pub LeavesContent : Names → Names → Content → State → Type 0
 LeavesContent only names content s = HasCleanDisk s → (trees : Trees) → s.may_leave trees → IsLeft only names content trees
@@ -109,8 +114,7 @@ pub record IsTurnedAway {D : Type 0} {g : Ghosts D} (wanted : Option Names) (ima
     (why : Unopened D g) : Type 0 where
   -- A database that stands for a content is refused only if it was made for other tables, fails, or
   -- memory runs out, and is left with that content.
-  pub refused : (names : Names) (content : Content)
-      → FilesHold (names_for wanted) names content image → IsUnopened wanted names content image why
+  pub refused : OfHeld wanted image (λ names content. IsUnopened wanted names content image why)
   -- Any other is refused with its reason and left as it is, and so are files that cannot be opened.
   pub turned : IsTurnedBack wanted image why
 
@@ -134,8 +138,7 @@ WasWanted {D} {g} wanted image closed =
 pub record ClosesAs {D : Type 0} {g : Ghosts D} (only : Option Names) (image : Image)
     (closed : Result (Files D) (Error × FileStore D g)) : Type 0 where
   -- A database that stood for a content was made for the given tables.
-  pub wanted : (names : Names) (content : Content) → FilesHold (names_for only) names content image
-      → IsCleanlyClosed closed → IsWanted only names
+  pub wanted : OfHeld only image (λ names content. IsCleanlyClosed closed → IsWanted only names)
   -- Any other whose tables are known stood for a content too.
   pub entered : WasWanted only image closed
   -- Why they could not be closed is what they met.

@@ -1,11 +1,12 @@
 -- The outcome of following a stream.
-use Rattle.std.specs.Prelude.{◌≡◌, ℕ, ◌+◌, ◌⊎◌, Bool, true, false, List, [], ◌++◌, Option, Some, None}
+use Rattle.std.specs.Prelude.{◌≡◌, ℕ, ◌+◌, ◌≤◌, ◌<◌, ◌↔◌, ◌⊎◌, Bool, true, false, List, [], ◌++◌, Option, Some, None}
 use Rattle.std.specs.Io.KnownBytes.{Appends, Consumes, IsAtEnd}
 use Rattle.sqlite_trees.specs.declared.store.Store.{Ghosts}
 use Rattle.binlog.specs.Filter.{Names}
 use Rattle.store.specs.State.{Content}
 use Rattle.store.specs.declared.store.Store.{Store}
 use Rattle.store.specs.Store.{database, names_of}
+use Rattle.replica.specs.declared.counted.Counted.{Counted}
 use Rattle.replica.specs.declared.end.Reason.{Reason}
 use Rattle.replica.specs.declared.end.Reason.TheVariants.{EndOfInput, Refused, Database, Memory, ReadFailed, WriteFailed, Halted, Until}
 use Rattle.replica.specs.declared.end.Ended.{Ended}
@@ -13,6 +14,7 @@ use Rattle.replica.specs.declared.session.Session.{Session}
 use Rattle.replica.specs.declared.following.Turn.{Turn}
 use Rattle.replica.specs.declared.following.Turn.TheVariants as turn
 use Rattle.replica.specs.Settings.{Settings}
+use Rattle.replica.specs.Failing.{HaveFailed}
 use Rattle.replica.specs.Conn.{Conn, IsOfBytes, EndsInLast, reported_as}
 use Rattle.replica.specs.Sent.{SentFor}
 use Rattle.replica.specs.Standing.{Position, Stands, sends_on, end_of, room_of}
@@ -127,3 +129,13 @@ failed_reads_of _ = 0
 abbrev pub failed_writes_of : Reason → ℕ
 failed_writes_of WriteFailed = 1
 failed_writes_of _ = 0
+
+-- The reason of an end says which call of the stream has failed between two moments. `failures` is what the stream reports of its own.
+pub record ReportsFailures {T : Type 0} (failures : T → Option (ℕ × ℕ)) (before after : Counted T) (reason : Reason) : Type 0 where
+  -- A failure is reported exactly if there was one, and at most one call has failed.
+  pub read_failed : (reason ≡ ReadFailed) ↔ (before.failed_reads < after.failed_reads)
+  pub write_failed : (reason ≡ WriteFailed) ↔ (before.failed_writes < after.failed_writes)
+  pub once : (after.failed_reads ≤ before.failed_reads + 1) × (after.failed_writes ≤ before.failed_writes + 1)
+  pub counted : (after.failed_reads ≡ before.failed_reads + failed_reads_of reason) × (after.failed_writes ≡ before.failed_writes + failed_writes_of reason)
+  -- If the stream reports its own failures, it has failed exactly so.
+  pub reported : HaveFailed (failures before.stream) (failures after.stream) (failed_reads_of reason) (failed_writes_of reason)

@@ -1,14 +1,12 @@
 //! Adding a set to the executed set of a database in a file.
 
-ghost use Rattle.std.specs.Prelude.{◌≡◌, None, IfOk, IfErr};
+ghost use Rattle.std.specs.Prelude.{None, IfOk, IfErr};
 ghost use Rattle.sqlite.specs.State.{HasCleanDisk};
 ghost use Rattle.sqlite_wal.specs.Files.{image_at};
-ghost use Rattle.binlog.specs.Filter.{Names};
 ghost use Rattle.store.specs.State.{Content};
 ghost use Rattle.store.specs.Store.{Holds, database};
-ghost use Rattle.store.specs.Entering.{names_for};
 ghost use Rattle.replica.specs.Keeps.{KeepsStore};
-ghost use Rattle.replica.specs.File.{FilesHold, IsTurnedAway, ClosesAs};
+ghost use Rattle.replica.specs.File.{OfHeld, IsTurnedAway, ClosesAs};
 ghost use Rattle.replica.specs.AdoptFile.{HasAdopted, AdoptsFile};
 
 use crate::file::{Unopened, close_file, open_file};
@@ -55,9 +53,8 @@ pub fn adopt_file<P: Start>(
 ) -> Result<AdoptedFile<FileFrom<P>>, Unopened<FileFrom<P>>>
     // If the files held a database that stands for a content, or none was there, the closed files hold that content with the set
     // added, and what the content had not executed of the set is returned; or, if it was not added, the content itself.
-    ensures adopts { IfOk result (λ done. (names : Names) (content : Content)
-        → FilesHold (names_for None) names content (image_at P.Start)
-        → AdoptsFile names content gtids.now done) }
+    ensures adopts { IfOk result (λ done. OfHeld None (image_at P.Start) (λ names content.
+        AdoptsFile names content gtids.now done)) }
     // Any other database whose tables are known stood for a content too. Why the files could not be closed is what they met.
     ensures closing { IfOk result (λ done. ClosesAs None (image_at P.Start) done.closed) }
     // A database that stands for a content is refused only if it fails, or memory runs out, and is left with that content. Any

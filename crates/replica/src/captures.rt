@@ -1,10 +1,10 @@
 //! Captured connections, read in order.
 
-ghost use Rattle.std.specs.Prelude.{◌≡◌, ◌≢◌, ◌<◌, ◌≤◌, [], Bool, true, false, length, vec_capacity, IfOk, IfErr, Ok, Err, All};
+ghost use Rattle.std.specs.Prelude.{◌≡◌, ◌<◌, ◌≤◌, [], Bool, length, vec_capacity, IfOk, IfErr, Ok, Err};
 ghost use Rattle.sqlite.specs.State.{HasCleanDisk};
 ghost use Rattle.store.specs.State.{Content};
 ghost use Rattle.store.specs.Store.{HoldsAs, database};
-ghost use Rattle.replica.specs.Capture.{HasReadOne, HasBrokenOff, Reads};
+ghost use Rattle.replica.specs.Capture.{HasReadOne, HasBrokenOff, Reads, HeedsObserver};
 ghost use Rattle.replica.specs.Over.{HasReadAll};
 ghost use Rattle.replica.specs.Noted.{MayEnd};
 ghost use Rattle.replica.specs.Keeps.{KeepsObserved, KeepsSinceOpening};
@@ -94,17 +94,12 @@ pub(crate) fn read_captures<R: Read + Drop, S: Alter, W: Observer>(
         → HoldsAs S.Store was old store.old → Reads R.Read.remaining
         (HasReadAll S.Store config.now.limit store.new
         (database S.Store store.old).now.schema was old) captures.items ends.new.items result }
-    // It stops early for the observer only if that has stopped, and so does each connection.
-    ensures asked { result ≡ Err Halt.Observer → (W.account observer.new).has_stopped ≡ true }
-    // Once it has stopped, no further capture is read.
-    ensures heeds { result ≡ Ok tt → ends.new.items ≢ []
-        → (W.account observer.new).has_stopped ≡ false }
-    ensures no_more { (W.account observer.old).has_stopped ≡ true → length ends.new.items ≤ 1 }
+    ensures heeded { HeedsObserver (W.account observer.old) (W.account observer.new)
+        ends.new.items result }
     // What was reported to it leads from the content before to the one afterwards, with the ends of the connections; if it had
     // stopped before, the store stays as it is.
     ensures keeps { KeepsSinceOpening S.Store store.old store.new (W.account observer.old)
         (W.account observer.new) ends.new.items }
-    ensures may_end { All (λ end. MayEnd end.reason (W.account observer.new)) ends.new.items }
 {
     observer.opened(store.executed());
     if observer.is_done() {

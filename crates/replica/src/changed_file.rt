@@ -1,13 +1,11 @@
 //! Changing a database in a file by transactions that no connection carries.
 
-ghost use Rattle.std.specs.Prelude.{◌≡◌, [], true, IfOk, IfErr, IsErr};
+ghost use Rattle.std.specs.Prelude.{◌≡◌, [], IfOk, IfErr, IsErr};
 ghost use Rattle.sqlite_wal.specs.Files.{image_at};
-ghost use Rattle.binlog.specs.Filter.{Names};
-ghost use Rattle.store.specs.State.{Content};
 ghost use Rattle.store.specs.Changes.{adopted};
-ghost use Rattle.store.specs.Entering.{wanted_of, names_for};
-ghost use Rattle.replica.specs.NotedFile.{IsNotedOfFiles};
-ghost use Rattle.replica.specs.File.{FilesHold, IsTurnedAway, ClosesAs, KeepsContent};
+ghost use Rattle.store.specs.Entering.{wanted_of};
+ghost use Rattle.replica.specs.NotedFile.{AreNoted};
+ghost use Rattle.replica.specs.File.{OfHeld, IsTurnedAway, ClosesAs};
 ghost use Rattle.replica.specs.Change.{IsAdopted, UnlessAdopted, MayStop};
 ghost use Rattle.replica.specs.ChangeFile.{ChangesFile};
 
@@ -49,9 +47,8 @@ pub fn change_file<P: Start, I: Deliveries + Drop, W: Observer>(
 ) -> Result<ChangedFile<I::Error, FileFrom<P>>, Unopened<FileFrom<P>>>
     // If the files held a database that stands for a content, or none was there, the closed files hold what the first of the
     // transactions, in order, each once, make of that content with the set added; all of them, if the end says so.
-    ensures changes { IfOk result (λ done. (names : Names) (content : Content)
-        → FilesHold (names_for (wanted_of only.entry)) names content (image_at P.Start)
-        → ChangesFile (I.supply deliveries) names content gtids.now done) }
+    ensures changes { IfOk result (λ done. OfHeld (wanted_of only.entry) (image_at P.Start)
+        (λ names content. ChangesFile (I.supply deliveries) names content gtids.now done)) }
     // Such a database was made for the given tables; any other whose tables are known stood for a content too. Why the files
     // could not be closed is what they met.
     ensures closing { IfOk result (λ done. ClosesAs (wanted_of only.entry) (image_at P.Start)
@@ -59,20 +56,13 @@ pub fn change_file<P: Start, I: Deliveries + Drop, W: Observer>(
     // It stops for the observer only if that has stopped, or waits for nothing.
     ensures asked { IfOk result (λ done. MayStop done.end (W.account observer.new)) }
     // If the set was added, what was reported to the observer leads from the content with it to the one that the closed files
-    // hold. Files that could not be closed are left with that content, or with one transaction more, which was reported before it.
-    ensures notes { IfOk result (λ done. IsAdopted done.end → (names : Names) (content : Content)
-        → FilesHold (names_for (wanted_of only.entry)) names content (image_at P.Start)
-        → IsNotedOfFiles names (adopted content gtids.now)
-        (W.account observer.old) (W.account observer.new) [] done.closed) }
+    // hold; and if it had stopped before, no transaction is applied.
+    ensures noted { IfOk result (λ done. IsAdopted done.end → AreNoted (wanted_of only.entry)
+        (image_at P.Start) (λ content. adopted content gtids.now) (W.account observer.old)
+        (W.account observer.new) [] done.closed) }
     // If the set was not added, nothing was reported.
     ensures unreported { IfOk result (λ done. UnlessAdopted done.end
         (observer.new ≡ observer.old)) }
-    // If it had stopped before, no transaction is applied: the files hold the content with the set added.
-    ensures keeps { IfOk result (λ done. (W.account observer.old).has_stopped ≡ true
-        → IsAdopted done.end → (names : Names) (content : Content)
-        → FilesHold (names_for (wanted_of only.entry)) names content (image_at P.Start)
-        → KeepsContent (names_for (wanted_of only.entry)) names
-        (adopted content gtids.now) done.closed) }
     // A database that stands for a content is refused only if it was made for other tables, fails, or memory runs out, and is
     // left with that content. Any other is refused with its reason and left as it is, and so are files that cannot be opened.
     ensures turned { IfErr result (IsTurnedAway (wanted_of only.entry) (image_at P.Start)) }

@@ -1,12 +1,9 @@
 //! Taking all rows of one table out of a database in a file.
 
-ghost use Rattle.std.specs.Prelude.{◌≡◌, [], true, None, IfOk, IfErr, IsErr};
+ghost use Rattle.std.specs.Prelude.{◌≡◌, [], None, IfOk, IfErr, IsErr};
 ghost use Rattle.sqlite_wal.specs.Files.{image_at};
-ghost use Rattle.binlog.specs.Filter.{Names};
-ghost use Rattle.store.specs.State.{Content};
-ghost use Rattle.store.specs.Entering.{names_for};
-ghost use Rattle.replica.specs.NotedFile.{IsNotedOfFiles};
-ghost use Rattle.replica.specs.File.{FilesHold, IsTurnedAway, ClosesAs, KeepsContent};
+ghost use Rattle.replica.specs.NotedFile.{AreNoted};
+ghost use Rattle.replica.specs.File.{OfHeld, IsTurnedAway, ClosesAs};
 ghost use Rattle.replica.specs.Clear.{MayEndClear, clear_of};
 ghost use Rattle.replica.specs.ClearFile.{ClearsFile};
 
@@ -44,24 +41,16 @@ pub fn clear_file<P: Start, W: Observer>(
 ) -> Result<ClearedFile<FileFrom<P>>, Unopened<FileFrom<P>>>
     // If the files held a database that stands for a content, or none was there, the closed files hold that content without the
     // rows of the table, if the end says so, and otherwise the content itself.
-    ensures clears { IfOk result (λ done. (names : Names) (content : Content)
-        → FilesHold (names_for None) names content (image_at P.Start)
-        → ClearsFile (clear_of schema.now table.now gtid) names content done) }
+    ensures clears { IfOk result (λ done. OfHeld None (image_at P.Start) (λ names content.
+        ClearsFile (clear_of schema.now table.now gtid) names content done)) }
     // Any other database whose tables are known stood for a content too. Why the files could not be closed is what they met.
     ensures closing { IfOk result (λ done. ClosesAs None (image_at P.Start) done.closed) }
     // It stops for the observer only if that has stopped.
     ensures asked { IfOk result (λ done. MayEndClear done.end (W.account observer.new)) }
-    // What was reported to the observer, from the executed set on, leads from the content to the one that the closed files hold.
-    // Files that could not be closed are left with that content, or with one transaction more, which was reported before it.
-    ensures notes { IfOk result (λ done. (names : Names) (content : Content)
-        → FilesHold (names_for None) names content (image_at P.Start)
-        → IsNotedOfFiles names content (W.account observer.old) (W.account observer.new) []
-        done.closed) }
-    // If it had stopped before, nothing is changed: the files hold the content from before.
-    ensures keeps { IfOk result (λ done. (W.account observer.old).has_stopped ≡ true
-        → (names : Names) (content : Content)
-        → FilesHold (names_for None) names content (image_at P.Start)
-        → KeepsContent (names_for None) names content done.closed) }
+    // What was reported to the observer, from the executed set on, leads from the content to the one that the closed files hold;
+    // and if it had stopped before, nothing is changed.
+    ensures noted { IfOk result (λ done. AreNoted None (image_at P.Start) (λ content. content)
+        (W.account observer.old) (W.account observer.new) [] done.closed) }
     // A database that stands for a content is refused only if it fails, or memory runs out, and is left with that content. Any
     // other is refused with its reason and left as it is, and so are files that cannot be opened.
     ensures turned { IfErr result (IsTurnedAway None (image_at P.Start)) }

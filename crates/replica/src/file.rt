@@ -9,11 +9,9 @@ ghost use Rattle.sqlite.specs.declared.error.ErrorCode.TheVariants.{CannotOpen};
 ghost use Rattle.sqlite.specs.State.{HasCleanDisk};
 ghost use Rattle.sqlite.specs.Files.{over_files, IsClosed, FailsToClose};
 ghost use Rattle.sqlite.specs.Closing.{IsCopied};
-ghost use Rattle.binlog.specs.Filter.{Names};
-ghost use Rattle.store.specs.State.{Content};
 ghost use Rattle.store.specs.Store.{Holds, connection, database, names_of};
 ghost use Rattle.store.specs.Entering.{IsWanted, wanted_of, names_for};
-ghost use Rattle.replica.specs.File.{FilesHold, LeavesContent, IsOpenedIn, IsTurnedAway, IsNotOpened};
+ghost use Rattle.replica.specs.File.{OfHeld, LeavesContent, IsOpenedIn, IsTurnedAway, IsNotOpened};
 
 use crate::file_connection::connect_to;
 use crate::file_pair::{CANNOT_OPEN, NotOpened, give_up, open_pair};
@@ -49,18 +47,16 @@ pub fn open_file<P: Start>(
     // If the files held a database that stands for a content, the store holds that content, and it was made for the given
     // tables; if there was none, the empty one.
     ensures opens { IfOk result (λ store. HasCleanDisk (database over_files store)
-        → (names : Names) (content : Content)
-        → FilesHold (names_for (wanted_of only.entry)) names content (image_at P.Start)
-        → Holds over_files store content × (names_of over_files store ≡ names)
-        × IsWanted (wanted_of only.entry) names) }
+        → OfHeld (wanted_of only.entry) (image_at P.Start) (λ names content.
+        Holds over_files store content × (names_of over_files store ≡ names)
+        × IsWanted (wanted_of only.entry) names)) }
     // Whatever database they held, if its tables are known, the store holds what it stood for.
     ensures entered { IfOk result (λ store. HasCleanDisk (database over_files store)
         → IsOpenedIn (wanted_of only.entry) (image_at P.Start) store) }
     // A crash after it leaves that content.
-    ensures leaves { IfOk result (λ store. (names : Names) (content : Content)
-        → FilesHold (names_for (wanted_of only.entry)) names content (image_at P.Start)
-        → LeavesContent (names_for (wanted_of only.entry)) names content
-        (database over_files store)) }
+    ensures leaves { IfOk result (λ store. OfHeld (wanted_of only.entry) (image_at P.Start)
+        (λ names content. LeavesContent (names_for (wanted_of only.entry)) names content
+        (database over_files store))) }
     // `:memory:`, which SQLite takes for no file, is refused.
     ensures memory { path.now ≡ codes ":memory:"
         → IsErrAnd result (IsNotOpened (Error.SqliteFailure CannotOpen)) }

@@ -1,16 +1,12 @@
 //! Following a source into a database file.
 
-ghost use Rattle.std.specs.Prelude.{◌≡◌, ◌<◌, [], true, Some, IfOk, IfErr, IsErr};
+ghost use Rattle.std.specs.Prelude.{◌≡◌, [], IfOk, IfErr, IsErr};
 ghost use Rattle.sqlite_wal.specs.Files.{image_at};
 ghost use Rattle.sqlite.specs.State.{HasCleanDisk};
-ghost use Rattle.gtid.specs.Identifier.{Ids};
-ghost use Rattle.binlog.specs.Filter.{Names};
-ghost use Rattle.store.specs.State.{Content};
 ghost use Rattle.store.specs.Store.{HoldsAs, database};
 ghost use Rattle.store.specs.Entering.{wanted_of, names_for};
-ghost use Rattle.replica.specs.NotedFile.{IsNotedOfFiles, HaveReached};
-ghost use Rattle.replica.specs.File.{FilesHold, IsTurnedAway, ClosesAs, KeepsContent};
-ghost use Rattle.replica.specs.declared.end.Reason.TheVariants.{Until};
+ghost use Rattle.replica.specs.NotedFile.{AreNoted, EndsInFiles};
+ghost use Rattle.replica.specs.File.{OfHeld, IsTurnedAway, ClosesAs};
 ghost use Rattle.replica.specs.Noted.{IsAsked};
 ghost use Rattle.replica.specs.Conn.{StoreState};
 ghost use Rattle.replica.specs.FollowFile.{Connects, FollowsFile, CountsFailures};
@@ -97,38 +93,23 @@ pub fn follow_file<
     // that content, so the database was opened first. The end is that of following the source from that content over the
     // stream that it gave, and the closed files hold a database that stands for the content that this leads to. If it gave
     // none, they hold the content from before.
-    ensures follows { IfOk result (λ done. (names : Names) (content : Content)
-        → FilesHold (names_for (wanted_of only.entry)) names content (image_at P.Start)
-        → FollowsFile
+    ensures follows { IfOk result (λ done. OfHeld (wanted_of only.entry) (image_at P.Start)
+        (λ names content. FollowsFile
         (record { left = T.Read.remaining; written = T.Write.contents; failures = T.failures })
-        (C.gives connect) config (names_for (wanted_of only.entry)) names content done) }
+        (C.gives connect) config (names_for (wanted_of only.entry)) names content done)) }
     // Such a database was made for the given tables; any other whose tables are known stood for a content too. Why the files
     // could not be closed is what they met.
     ensures closing { IfOk result (λ done. ClosesAs (wanted_of only.entry) (image_at P.Start)
         done.closed) }
-    // A failure of the stream is reported exactly if there was one; it is the last call.
-    ensures counts { IfOk result (λ done. IfOk done.connection
-        (λ ended. CountsFailures ended.0 ended.1)) }
-    // The connection is halted, or ended with `Until`, only if the observer asked for that.
-    ensures asked { IfOk result (λ done. IfOk done.connection (λ ended.
-        IsAsked ended.0.reason (W.account observer.new))) }
-    // Where it is ended with `Until`, the files hold the first content in which all that the observer waited for is executed.
-    ensures until { IfOk result (λ done. IfOk done.connection (λ ended. ended.0.reason ≡ Until
-        → (names : Names) (content : Content) (wanted : Ids)
-        → FilesHold (names_for (wanted_of only.entry)) names content (image_at P.Start)
-        → (W.account observer.old).waits ≡ Some wanted
-        → HaveReached names content wanted done.closed)) }
-    // What was reported to the observer leads from that content to the one that the closed files hold.
-    // Files that could not be closed are left with that content, or with one transaction more, which was reported before it.
-    ensures notes { IfOk result (λ done. (names : Names) (content : Content)
-        → FilesHold (names_for (wanted_of only.entry)) names content (image_at P.Start)
-        → IsNotedOfFiles names content (W.account observer.old)
-        (W.account observer.new) [] done.closed) }
-    // If it had stopped before, nothing is applied: the files hold the content from before.
-    ensures keeps { IfOk result (λ done. (W.account observer.old).has_stopped ≡ true
-        → (names : Names) (content : Content)
-        → FilesHold (names_for (wanted_of only.entry)) names content (image_at P.Start)
-        → KeepsContent (names_for (wanted_of only.entry)) names content done.closed) }
+    // The end says whether the stream failed. The connection is halted, or ended with `Until`, only if the observer asked for
+    // that, and then the files hold the first content in which all that it waited for is executed.
+    ensures ends { IfOk result (λ done. IfOk done.connection (EndsInFiles
+        (wanted_of only.entry) (image_at P.Start) (W.account observer.old)
+        (W.account observer.new) done.closed)) }
+    // What was reported to the observer leads from that content to the one that the closed files hold; and if it had stopped
+    // before, nothing is applied.
+    ensures noted { IfOk result (λ done. AreNoted (wanted_of only.entry) (image_at P.Start)
+        (λ content. content) (W.account observer.old) (W.account observer.new) [] done.closed) }
     // A database that stands for a content is refused only if it was made for other tables, fails, or memory runs out, and is
     // left with that content. Any other is refused with its reason and left as it is, and so are files that cannot be opened.
     ensures turned { IfErr result (IsTurnedAway (wanted_of only.entry) (image_at P.Start)) }

@@ -1,6 +1,6 @@
 //! Following a source over a stream.
 
-ghost use Rattle.std.specs.Prelude.{◌≡◌, ◌≢◌, ◌<◌, ◌≤◌, ◌+◌, ◌-◌, ◌^◌, ◌++◌, ◌↔◌, ℕ, List, [], Bool, true, length, take, if◌then◌else◌, None};
+ghost use Rattle.std.specs.Prelude.{◌≡◌, ◌≢◌, ◌<◌, ◌≤◌, ◌+◌, ◌-◌, ◌^◌, ◌++◌, ℕ, List, [], Bool, true, length, take, if◌then◌else◌, None};
 ghost use Rattle.std.specs.Io.KnownBytes.{Appends, Consumes, Keeps, IsAtEnd};
 ghost use Rattle.sqlite.specs.State.{HasCleanDisk};
 ghost use Rattle.sqlite_schema.specs.declared.schema.Schema.{Schema};
@@ -11,7 +11,7 @@ ghost use Rattle.replica.specs.Over.{StandsOver};
 ghost use Rattle.replica.specs.Noted.{IsAsked, MayEnd};
 ghost use Rattle.replica.specs.Missing.{waits_for_none};
 ghost use Rattle.replica.specs.Failing.{HaveFailed};
-ghost use Rattle.replica.specs.Follow.{Follows, HandsOut, exchange, sends_no_more_after, reads_failed, turns_left, failed_reads_of, failed_writes_of};
+ghost use Rattle.replica.specs.Follow.{Follows, HandsOut, exchange, sends_no_more_after, reads_failed, turns_left, ReportsFailures};
 ghost use Rattle.replica.specs.Keeps.{KeepsStore, KeepsObserved};
 
 use crate::config::Config;
@@ -175,20 +175,8 @@ pub fn follow<T: Duplex, S: Alter>(
         (exchange T.Read.remaining T.Write.contents stream.old.stream stream.new.stream) result }
     // Nothing halts the connection.
     ensures going { result.reason ≢ Reason.Halted }
-    // A failure of the stream is reported exactly if there was one.
-    ensures read_failed { (result.reason ≡ Reason.ReadFailed)
-        ↔ (stream.old.failed_reads < stream.new.failed_reads) }
-    ensures write_failed { (result.reason ≡ Reason.WriteFailed)
-        ↔ (stream.old.failed_writes < stream.new.failed_writes) }
-    // The call that fails is the last one: none is made after it.
-    ensures once { (stream.new.failed_reads ≤ stream.old.failed_reads + 1)
-        × (stream.new.failed_writes ≤ stream.old.failed_writes + 1) }
-    ensures counted { (stream.new.failed_reads ≡ stream.old.failed_reads + failed_reads_of
-        result.reason) × (stream.new.failed_writes
-        ≡ stream.old.failed_writes + failed_writes_of result.reason) }
-    // If the stream reports its own failures, these are they: exactly the one that is reported.
-    ensures reported { HaveFailed (T.failures stream.old.stream) (T.failures stream.new.stream)
-        (failed_reads_of result.reason) (failed_writes_of result.reason) }
+    // A failure of the stream is reported exactly if there was one, and at most one call has failed.
+    ensures failures { ReportsFailures T.failures stream.old stream.new result.reason }
     // It follows the same tables, and a store that has failed stays as it is.
     ensures keeps { KeepsStore S.Store store.old store.new }
 {
@@ -219,17 +207,7 @@ pub fn follow_observed<T: Duplex, S: Alter, W: Observer>(
     ensures until { waits_for_none (W.account observer.old).waits ≡ true
         → (result ≡ record { reason = Reason.Until; at = 0; applied = 0 })
         × (stream.new ≡ stream.old) × (store.new ≡ store.old) × (observer.new ≡ observer.old) }
-    ensures read_failed { (result.reason ≡ Reason.ReadFailed)
-        ↔ (stream.old.failed_reads < stream.new.failed_reads) }
-    ensures write_failed { (result.reason ≡ Reason.WriteFailed)
-        ↔ (stream.old.failed_writes < stream.new.failed_writes) }
-    ensures once { (stream.new.failed_reads ≤ stream.old.failed_reads + 1)
-        × (stream.new.failed_writes ≤ stream.old.failed_writes + 1) }
-    ensures counted { (stream.new.failed_reads ≡ stream.old.failed_reads + failed_reads_of
-        result.reason) × (stream.new.failed_writes
-        ≡ stream.old.failed_writes + failed_writes_of result.reason) }
-    ensures reported { HaveFailed (T.failures stream.old.stream) (T.failures stream.new.stream)
-        (failed_reads_of result.reason) (failed_writes_of result.reason) }
+    ensures failures { ReportsFailures T.failures stream.old stream.new result.reason }
 {
     let mut session = Session::new(config);
     if observer.is_done() {

@@ -10,7 +10,7 @@ ghost use Rattle.store.specs.Store.{Holds, database, names_of};
 ghost use Rattle.store.specs.Entering.{names_for};
 ghost use Rattle.replica.specs.Over.{HasStayed};
 ghost use Rattle.replica.specs.Keeps.{KeepsStore};
-ghost use Rattle.replica.specs.File.{FilesHold, IsTurnedAway, IsCleanlyClosed, ClosesAs, KeepsContent};
+ghost use Rattle.replica.specs.File.{OfHeld, IsTurnedAway, IsCleanlyClosed, ClosesAs, KeepsContent};
 ghost use Rattle.replica.specs.ListFile.{IsListed};
 
 use crate::file::{Unopened, close_file, open_file};
@@ -71,13 +71,12 @@ pub fn list_file<P: Start, L: Lister>(
 ) -> Result<ListedFile<L::Error, FileFrom<P>>, Unopened<FileFrom<P>>>
     // If the files held a database that stands for a content, or none was there, the lister was given the executed set and the
     // filter, and then the rows of that content if it asked for them.
-    ensures lists { IfOk result (λ done. (names : Names) (content : Content)
-        → FilesHold (names_for None) names content (image_at P.Start) → IsCleanlyClosed done.closed
-        → IsListed L.begun L.Visitor.row_gives names content lister.old lister.new done.listed) }
+    ensures lists { IfOk result (λ done. OfHeld None (image_at P.Start) (λ names content.
+        IsCleanlyClosed done.closed
+        → IsListed L.begun L.Visitor.row_gives names content lister.old lister.new done.listed)) }
     // The files still hold that content.
-    ensures keeps { IfOk result (λ done. (names : Names) (content : Content)
-        → FilesHold (names_for None) names content (image_at P.Start)
-        → KeepsContent (names_for None) names content done.closed) }
+    ensures keeps { IfOk result (λ done. OfHeld None (image_at P.Start) (λ names content.
+        KeepsContent (names_for None) names content done.closed)) }
     // Any other database whose tables are known stood for a content too. Why the files could not be closed is what they met.
     ensures closing { IfOk result (λ done. ClosesAs None (image_at P.Start) done.closed) }
     // A database that stands for a content is refused only if it fails, or memory runs out, and is left with that content. Any

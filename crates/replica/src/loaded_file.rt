@@ -1,11 +1,9 @@
 //! Loading a first copy of tables into a database in a file.
 
-ghost use Rattle.std.specs.Prelude.{◌≡◌, true, IfOk, IfErr, IsErr};
+ghost use Rattle.std.specs.Prelude.{◌≡◌, IfOk, IfErr, IsErr};
 ghost use Rattle.sqlite_wal.specs.Files.{image_at};
-ghost use Rattle.binlog.specs.Filter.{Names};
-ghost use Rattle.store.specs.State.{Content};
 ghost use Rattle.store.specs.Entering.{wanted_of, names_for};
-ghost use Rattle.replica.specs.File.{FilesHold, IsTurnedAway, ClosesAs};
+ghost use Rattle.replica.specs.File.{OfHeld, IsTurnedAway, ClosesAs};
 ghost use Rattle.replica.specs.Copies.{copy_of};
 ghost use Rattle.replica.specs.LoadFile.{LoadsFile, IsNotedOfLoad, UnlessLoaded, MayStopLoad};
 
@@ -48,10 +46,9 @@ pub fn load_file<P: Start, I: Deliveries + Drop, W: Observer>(
     // If the files held a database that stands for a content, or none was there, the copy is loaded if it may be, and the closed
     // files hold what its set with its first GTID and the first of its transactions, in order, each once, make of that content;
     // all of them, if the end says so. If it may not be loaded, they hold the content of before.
-    ensures loads { IfOk result (λ done. (names : Names) (content : Content)
-        → FilesHold (names_for (wanted_of only.entry)) names content (image_at P.Start)
-        → LoadsFile (names_for (wanted_of only.entry)) names content
-        (copy_of (I.supply deliveries) copy.entry) done) }
+    ensures loads { IfOk result (λ done. OfHeld (wanted_of only.entry) (image_at P.Start)
+        (λ names content. LoadsFile (names_for (wanted_of only.entry)) names content
+        (copy_of (I.supply deliveries) copy.entry) done)) }
     // Such a database was made for the given tables; any other whose tables are known stood for a content too. Why the files
     // could not be closed is what they met.
     ensures closing { IfOk result (λ done. ClosesAs (wanted_of only.entry) (image_at P.Start)
@@ -60,10 +57,9 @@ pub fn load_file<P: Start, I: Deliveries + Drop, W: Observer>(
     ensures asked { IfOk result (λ done. MayStopLoad done.end (W.account observer.new)) }
     // If the set was added, what was reported to the observer leads from the content with it to the one that the closed files
     // hold. Files that could not be closed are left with that content, or with one transaction more, which was reported before it.
-    ensures notes { IfOk result (λ done. (names : Names) (content : Content)
-        → FilesHold (names_for (wanted_of only.entry)) names content (image_at P.Start)
-        → IsNotedOfLoad names content (copy_of (I.supply deliveries) copy.entry)
-        (W.account observer.old) (W.account observer.new) done.end done.closed) }
+    ensures notes { IfOk result (λ done. OfHeld (wanted_of only.entry) (image_at P.Start)
+        (λ names content. IsNotedOfLoad names content (copy_of (I.supply deliveries) copy.entry)
+        (W.account observer.old) (W.account observer.new) done.end done.closed)) }
     // If the copy was refused or the set was not added, nothing was reported.
     ensures unreported { IfOk result (λ done. UnlessLoaded done.end
         (observer.new ≡ observer.old)) }

@@ -1,16 +1,14 @@
 //! Replaying captured connections into a database file.
 
-ghost use Rattle.std.specs.Prelude.{◌≡◌, ◌≢◌, ◌≤◌, [], true, false, length, Some, IfOk, IfErr, IsErr, Ok, Err, All};
+ghost use Rattle.std.specs.Prelude.{◌≡◌, Some, IfOk, IfErr, IsErr, Ok, Err, All};
 ghost use Rattle.sqlite_wal.specs.Files.{image_at};
 ghost use Rattle.gtid.specs.Identifier.{Ids};
-ghost use Rattle.binlog.specs.Filter.{Names};
-ghost use Rattle.store.specs.State.{Content};
-ghost use Rattle.store.specs.Entering.{wanted_of, names_for};
-ghost use Rattle.replica.specs.NotedFile.{IsNotedOfFiles, HaveReached};
-ghost use Rattle.replica.specs.File.{FilesHold, IsTurnedAway, ClosesAs, KeepsContent};
+ghost use Rattle.store.specs.Entering.{wanted_of};
+ghost use Rattle.replica.specs.NotedFile.{HaveReached, AreNoted};
+ghost use Rattle.replica.specs.File.{OfHeld, IsTurnedAway, ClosesAs};
 ghost use Rattle.replica.specs.Replay.{Replays};
 ghost use Rattle.replica.specs.declared.end.Reason.TheVariants.{Until};
-ghost use Rattle.replica.specs.Noted.{MayEnd};
+ghost use Rattle.replica.specs.Capture.{HeedsObserver};
 
 use crate::captures::{Capture, Halt, read_captures};
 use crate::config::Config;
@@ -60,40 +58,28 @@ pub fn replay<P: Start, R: Read + Drop, W: Observer>(
     // If the files held a database that stands for a content, or none was there, the ends are those of taking the
     // connections in order, each once, from that content, and the closed files hold a database that stands for the content
     // that they lead to.
-    ensures replays { IfOk result (λ done. (names : Names) (content : Content)
-        → FilesHold (names_for (wanted_of only.entry)) names content (image_at P.Start)
-        → Replays R.Read.remaining config.now.limit names content captures.items done) }
+    ensures replays { IfOk result (λ done. OfHeld (wanted_of only.entry) (image_at P.Start)
+        (λ names content. Replays R.Read.remaining config.now.limit names content
+        captures.items done)) }
     // Such a database was made for the given tables; any other whose tables are known stood for a content too. Why the files
     // could not be closed is what they met.
     ensures closing { IfOk result (λ done. ClosesAs (wanted_of only.entry) (image_at P.Start)
         done.closed) }
-    // Connections are left unread for the observer only if that has stopped, and so is a connection halted.
-    ensures asked { IfOk result (λ done. done.read ≡ Err Halt.Observer
-        → (W.account observer.new).has_stopped ≡ true) }
-    // Once it has stopped, no further connection is read.
-    ensures heeds { IfOk result (λ done. done.read ≡ Ok tt → done.ends.items ≢ []
-        → (W.account observer.new).has_stopped ≡ false) }
-    ensures no_more { IfOk result (λ done. (W.account observer.old).has_stopped ≡ true
-        → length done.ends.items ≤ 1) }
-    // What was reported to the observer leads from that content to the one that the closed files hold, with the ends.
-    // Files that could not be closed are left with that content, or with one transaction more, which was reported before it.
-    ensures notes { IfOk result (λ done. (names : Names) (content : Content)
-        → FilesHold (names_for (wanted_of only.entry)) names content (image_at P.Start)
-        → IsNotedOfFiles names content (W.account observer.old)
-        (W.account observer.new) done.ends.items done.closed) }
-    // If it had stopped before, nothing is applied: the files hold the content from before.
-    ensures keeps { IfOk result (λ done. (W.account observer.old).has_stopped ≡ true
-        → (names : Names) (content : Content)
-        → FilesHold (names_for (wanted_of only.entry)) names content (image_at P.Start)
-        → KeepsContent (names_for (wanted_of only.entry)) names content done.closed) }
-    ensures may_end { IfOk result (λ done. All (λ end. MayEnd end.reason (W.account observer.new))
-        done.ends.items) }
+    // Captures are left unread for the observer only if that has stopped, and a connection is halted, or ended with `Until`,
+    // only if it asked for that.
+    ensures heeded { IfOk result (λ done. HeedsObserver (W.account observer.old)
+        (W.account observer.new) done.ends.items done.read) }
+    // What was reported to the observer leads from that content to the one that the closed files hold, with the ends; and if it
+    // had stopped before, nothing is applied.
+    ensures noted { IfOk result (λ done. AreNoted (wanted_of only.entry) (image_at P.Start)
+        (λ content. content) (W.account observer.old) (W.account observer.new)
+        done.ends.items done.closed) }
     // Where one is ended with `Until`, the files hold the first content in which all that the observer waited for is executed.
-    ensures until { IfOk result (λ done. (names : Names) (content : Content) (wanted : Ids)
-        → FilesHold (names_for (wanted_of only.entry)) names content (image_at P.Start)
+    ensures until { IfOk result (λ done. (wanted : Ids)
         → (W.account observer.old).waits ≡ Some wanted
-        → All (λ end. end.reason ≡ Until → HaveReached names content wanted done.closed)
-        done.ends.items) }
+        → OfHeld (wanted_of only.entry) (image_at P.Start) (λ names content.
+        All (λ end. end.reason ≡ Until → HaveReached names content wanted done.closed)
+        done.ends.items)) }
     // A database that stands for a content is refused only if it was made for other tables, fails, or memory runs out, and is
     // left with that content. Any other is refused with its reason and left as it is, and so are files that cannot be opened.
     ensures turned { IfErr result (IsTurnedAway (wanted_of only.entry) (image_at P.Start)) }

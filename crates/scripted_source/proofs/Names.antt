@@ -1,5 +1,4 @@
 -- The names of other modules that the proofs use, in one place.
-pub use Rattle.binlog.proofs.Prefixes.{on_ok}
 pub use Rattle.binlog.specs.Writing.{IsWritable}
 pub use Rattle.greet.specs.Message.{DumpValue}
 pub use Rattle.gtid.specs.Encoding.{IsEncoding}

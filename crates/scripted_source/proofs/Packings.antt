@@ -351,3 +351,8 @@ opened scramble payload none a b d nothing is x y z = record {
   packs_query = z.packing;
   bytes_are = z.appended ∙ ap (λ (l : List ℕ). l ++ z.bytes) (y.appended ∙ ap (λ (l : List ℕ). l ++ y.bytes) (x.appended ∙ ap (λ (l : List ℕ). l ++ x.bytes) nothing)) ∙ append_assoc x.bytes y.bytes z.bytes;
 }
+
+-- what holds of any answer
+pub on_ok : {T E P : Type 0} (r : Result T E) → P → OnOk r P
+on_ok (Ok x) p = p
+on_ok (Err e) p = tt

@@ -16,6 +16,11 @@ use Rattle.store.proofs.Keeps.{refused_same}
 use Rattle.store.proofs.Statements.{eight_params, inserts, inserts_eight, deletes, updates, shown_reads, shown_same}
 use Rattle.store.proofs.Effects.{holds_inserted, deleted, holds_raised, holds_lowered}
 
+-- what holds of any answer
+pub on_ok : {T E P : Type 0} (r : Result T E) → P → OnOk r P
+on_ok (Ok x) p = p
+on_ok (Err e) p = tt
+
 -- the answer where the key is taken
 abbrev pub taken : Error
 taken = SqliteFailure (ConstraintViolation Unique)

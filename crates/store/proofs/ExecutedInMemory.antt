@@ -11,7 +11,7 @@ use Rattle.store.specs.declared.fault.Applied.{Applied}
 use Rattle.store.specs.declared.fault.Applied.TheVariants.{Done}
 use Rattle.store.specs.declared.fault.StoreFault.TheVariants.{NoSuchRow, CountFull, Database, Broken}
 use Rattle.store.specs.declared.store.Store.{Store}
-use Rattle.store.specs.Store.{Holds, Applies, AppliesShut, AreOf, Leaves, breaks}
+use Rattle.store.specs.Store.{Holds, KeepsRest, Applies, AppliesShut, AreOf, Leaves, breaks}
 use Rattle.store.specs.Changes.{HasOutcome, refused}
 use Rattle.store.proofs.BesideStays.{beside_same, beside_unchanged}
 use Rattle.store.specs.Apply.{IsAtRestAfter, HasMoved, Comes, MayMove, IsReported, FailsShut}
@@ -206,3 +206,16 @@ module _ {S : Type 0} (g : Ghosts S) (names : Names) (content : Content)
   left_whole d old new (Err Memory) executed trees rest it (inl was) left = stays old trees rest was
   left_whole d old new (Err Memory) executed trees rest it (inr may) left = absurd may
   left_whole d old new _ executed trees rest it was left = absurd it
+
+-- ---- what stays
+module _ {S : Type 0} (g : Ghosts S) (settled : (h : Held S) (db : Trees) → IsTrue (state g h).is_open → (state g h).may_leave db → db ≡ (state g h).committed.trees) where
+  -- of a call that leaves the connection and the names as they were
+  pub rest_kept : {X : Type 0} (before after : Store S g) (answer : Result X StoreFault) → after.conn ≡ before.conn → after.following ≡ before.following → KeepsRest g before after answer
+  rest_kept before after answer conn names = record {
+    following = names;
+    clean = subst (λ h. HasCleanDisk (state g h)) conn;
+    schema = λ clean content was whole. ap (λ h. (state g h).now.schema) conn;
+    beside = λ clean content was is_open. beside_unchanged (state g before.conn).now (state g after.conn).now (ap (λ h. (state g h).now) conn);
+    crash_beside = λ clean content was trees left. spares g before.following content settled before.conn trees was.rest (subst (λ h. (state g h).may_leave trees) conn left);
+    unchanged = λ clean content was failed is_open. ap (λ h. (state g h).now) conn;
+  }

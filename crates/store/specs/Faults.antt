@@ -6,18 +6,21 @@ use Rattle.store.specs.declared.fault.StoreFault.TheVariants.{NoSuchRow, CountFu
 
 -- Opening finds that the tables are damaged, of another layout, or made for other names than the given ones, or fails.
 abbrev pub IsOpenFault : Option Names → StoreFault → Type 0
-IsOpenFault wanted (NoSuchRow at) = ⊥
-IsOpenFault wanted (CountFull at) = ⊥
-IsOpenFault wanted Broken = ⊥
+IsOpenFault wanted (Database e) = Unit {0}
+IsOpenFault wanted Memory = Unit {0}
+IsOpenFault wanted Damaged = Unit {0}
+IsOpenFault wanted (Layout n) = Unit {0}
 IsOpenFault wanted Follows = IsSome wanted
-IsOpenFault wanted _ = Unit {0}
+IsOpenFault wanted _ = ⊥
 
 -- A transaction is refused at a change, or fails, or the store has failed before.
 abbrev pub IsApplyFault : StoreFault → Type 0
-IsApplyFault Damaged = ⊥
-IsApplyFault (Layout n) = ⊥
-IsApplyFault Follows = ⊥
-IsApplyFault _ = Unit {0}
+IsApplyFault (NoSuchRow at) = Unit {0}
+IsApplyFault (CountFull at) = Unit {0}
+IsApplyFault (Database e) = Unit {0}
+IsApplyFault Memory = Unit {0}
+IsApplyFault Broken = Unit {0}
+IsApplyFault _ = ⊥
 
 -- Adopting fails, or the store has failed before.
 abbrev pub IsAdoptFault : StoreFault → Type 0

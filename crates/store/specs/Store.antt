@@ -1,9 +1,9 @@
 -- What a store holds, and the outcome of applying a transaction.
-use Rattle.std.specs.Prelude.{◌≡◌, ◌⊎◌, ℕ, Bool, true, false, IsTrue, MatchBool, Option, Result, Ok, Err}
+use Rattle.std.specs.Prelude.{◌≡◌, ◌⊎◌, ℕ, Bool, true, false, IsTrue, MatchBool, Option, Result, Ok, Err, IsErr}
 use Rattle.sqlite_trees.specs.declared.store.Store.{Ghosts}
 use Rattle.sqlite_trees.specs.Tree.{Trees}
 use Rattle.sqlite_schema.specs.declared.schema.Schema.{Schema}
-use Rattle.sqlite.specs.State.{State}
+use Rattle.sqlite.specs.State.{State, HasCleanDisk}
 use Rattle.sqlite.specs.Held.{Held, state}
 use Rattle.gtid.specs.Identifier.{Ids}
 use Rattle.binlog.specs.Filter.{Names}
@@ -16,7 +16,8 @@ use Rattle.store.specs.declared.fault.StoreFault.TheVariants.{NoSuchRow, CountFu
 use Rattle.store.specs.declared.store.Store.{Store}
 use Rattle.store.specs.State.{Content, TableRow}
 use Rattle.store.specs.Changes.{HasOutcome, is_executed, done, repeat, refused, adopted}
-use Rattle.store.specs.Apply.{IsAtRest, IsApplied}
+use Rattle.store.specs.Beside.{LiesBeside}
+use Rattle.store.specs.Apply.{IsAtRest, IsApplied, SparesBeside}
 pub use Rattle.store.specs.Apply.{AreOf}
 use Rattle.store.specs.Entering.{IsOf, IsWanted, names_for}
 
@@ -62,6 +63,20 @@ module _ {S : Type 0} (g : Ghosts S) where
   -- The store holds this content, and has failed or not.
   abbrev pub HoldsAs : Bool → Content → Store S g → Type 0
   HoldsAs broken content store = MatchBool broken (HasFailed store content) (Holds store content)
+
+  -- What a call that may change the content keeps otherwise. But for the first two facts this is said of a store that held a content,
+  -- and of a disk that is clean after the call.
+  pub record KeepsRest {X : Type 0} (before after : Store S g) (answer : Result X StoreFault) : Type 0 where
+    -- The names stay, and if the disk is clean after the call, it was so before.
+    pub following : names_of after ≡ names_of before
+    pub clean : HasCleanDisk (database after) → HasCleanDisk (database before)
+    -- A store that is still whole has the same schema.
+    pub schema : HasCleanDisk (database after) → (content : Content) → Holds before content → IsUnbroken after → (database after).now.schema ≡ (database before).now.schema
+    -- What lies beside stays, where the connection is still open, and a crash leaves it as it was.
+    pub beside : HasCleanDisk (database after) → (content : Content) → Holds before content → IsTrue (database after).is_open → LiesBeside (database before).now (database after).now
+    pub crash_beside : HasCleanDisk (database after) → (content : Content) → Holds before content → (trees : Trees) → (database after).may_leave trees → SparesBeside (database before).now trees
+    -- After a fault the whole database is as it was, where the connection is still open.
+    pub unchanged : HasCleanDisk (database after) → (content : Content) → Holds before content → IsErr answer → IsTrue (database after).is_open → (database after).now ≡ (database before).now
 
   -- The store holds what the transaction makes of the content.
   pub record HoldsApplied (names : Names) (content : Content) (d : DeliveryValue) (new : Store S g) : Type 0 where

@@ -8,10 +8,9 @@ ghost use Rattle.gtid.specs.Identifier.{id};
 ghost use Rattle.gather.specs.View.{delivery_value};
 ghost use Rattle.store.specs.State.{Content};
 ghost use Rattle.store.specs.Changes.{is_executed};
-ghost use Rattle.store.specs.Beside.{LiesBeside};
-ghost use Rattle.store.specs.Apply.{SparesBeside, IsReported, RunsNew};
+ghost use Rattle.store.specs.Apply.{IsReported, RunsNew};
 ghost use Rattle.store.specs.Faults.{IsApplyFault};
-ghost use Rattle.store.specs.Store.{Holds, Keeps, Applies, AppliesShut, Leaves, breaks, database, names_of, IsBroken, IsUnbroken};
+ghost use Rattle.store.specs.Store.{Holds, Keeps, Applies, AppliesShut, Leaves, breaks, database, names_of, IsBroken, KeepsRest};
 ghost use Rattle.store.specs.declared.fault.Applied.TheVariants.{Repeat};
 ghost use Rattle.store.specs.declared.fault.StoreFault.TheVariants.{Broken, Memory};
 
@@ -100,23 +99,7 @@ impl<S: Alter> Store<S> {
             → is_executed content (delivery_value delivery.now) ≡ true
             → (result ≡ Ok Repeat) × (self.new ≡ self.old) }
         ensures broken { IsBroken S.Store self.old → (result ≡ Err Broken) × (self.new ≡ self.old) }
-        ensures following { names_of S.Store self.new ≡ names_of S.Store self.old }
-        ensures schema { HasCleanDisk (database S.Store self.new) → (content : Content)
-            → Holds S.Store self.old content → IsUnbroken S.Store self.new
-            → (database S.Store self.new).now.schema ≡ (database S.Store self.old).now.schema }
-        ensures beside { HasCleanDisk (database S.Store self.new) → (content : Content)
-            → Holds S.Store self.old content → IsTrue (database S.Store self.new).is_open
-            → LiesBeside (database S.Store self.old).now (database S.Store self.new).now }
-        ensures crash_beside { HasCleanDisk (database S.Store self.new) → (content : Content)
-            → Holds S.Store self.old content → (trees : _)
-            → (database S.Store self.new).may_leave trees
-            → SparesBeside (database S.Store self.old).now trees }
-        ensures unchanged { HasCleanDisk (database S.Store self.new) → (content : Content)
-            → Holds S.Store self.old content → IsErr result
-            → IsTrue (database S.Store self.new).is_open
-            → (database S.Store self.new).now ≡ (database S.Store self.old).now }
-        ensures clean { HasCleanDisk (database S.Store self.new)
-            → HasCleanDisk (database S.Store self.old) }
+        ensures rest { KeepsRest S.Store self.old self.new result }
         ensures crash { HasCleanDisk (database S.Store self.new) → (content : Content)
             → Holds S.Store self.old content → (trees : _)
             → (database S.Store self.new).may_leave trees

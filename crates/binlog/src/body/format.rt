@@ -6,7 +6,7 @@ ghost use Rattle.binlog.specs.Header.{header_length};
 ghost use Rattle.binlog.specs.Body.{IsFormat, format_fault, length_refusals, read_lengths};
 ghost use Rattle.binlog.specs.Fault.{first_of};
 ghost use Rattle.binlog.specs.Writing.{format_body};
-ghost use Rattle.binlog.specs.Appending.{AppendsBytes};
+ghost use Rattle.gtid.specs.Appending.{AppendsBytes};
 
 use crate::event_type;
 use crate::fault::{EventFault, EventFaultKind};

@@ -7,7 +7,7 @@ ghost use Rattle.binlog.specs.Body.{IsGtidBody, gtid_fault};
 ghost use Rattle.binlog.specs.Event.{gtid};
 ghost use Rattle.binlog.specs.Writing.{IsWritable};
 ghost use Rattle.binlog.specs.Writing.{gtid_body};
-ghost use Rattle.binlog.specs.Appending.{AppendsBytes};
+ghost use Rattle.gtid.specs.Appending.{AppendsBytes};
 
 use crate::fault::{EventFault, EventFaultKind};
 use byteorder::{ByteOrder, LittleEndian};

@@ -5,7 +5,7 @@ ghost use Rattle.binlog.specs.Header.{header_length};
 ghost use Rattle.binlog.specs.declared.body.query.Query.{Query};
 ghost use Rattle.binlog.specs.Body.{IsQuery, query_fault, statement, text_place};
 ghost use Rattle.binlog.specs.Writing.{query_body};
-ghost use Rattle.binlog.specs.Appending.{AppendsBytes};
+ghost use Rattle.gtid.specs.Appending.{AppendsBytes};
 
 use crate::fault::{EventFault, EventFaultKind};
 use byteorder::{ByteOrder, LittleEndian};

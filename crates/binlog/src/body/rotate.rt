@@ -7,7 +7,7 @@ ghost use Rattle.binlog.specs.Event.{rotate};
 ghost use Rattle.binlog.specs.Writing.{IsWritable};
 ghost use Rattle.byteorder.specs.Endian.{little_bytes};
 ghost use Rattle.binlog.specs.Header.{header_length};
-ghost use Rattle.binlog.specs.Appending.{AppendsBytes};
+ghost use Rattle.gtid.specs.Appending.{AppendsBytes};
 
 use crate::fault::EventFault;
 use byteorder::{ByteOrder, LittleEndian};

@@ -10,7 +10,7 @@ ghost use Rattle.binlog.specs.Table.{most_columns};
 ghost use Rattle.binlog.specs.Header.{header_length};
 ghost use Rattle.binlog.specs.Event.{rows};
 ghost use Rattle.binlog.specs.Writing.{stmt_end, IsWritable, HasRowsBody, plain_rows, rows_head, presents_bytes, rows_body};
-ghost use Rattle.binlog.specs.Appending.{AppendsBytes};
+ghost use Rattle.gtid.specs.Appending.{AppendsBytes};
 
 use crate::bitmap::{is_set, write_full_bitmap};
 use crate::body::rows_event::{RowsEvent, RowsKind};

@@ -8,7 +8,7 @@ ghost use Rattle.binlog.specs.declared.fault.EventFaultKind.TheVariants.{Memory}
 ghost use Rattle.binlog.specs.Fault.{number_at};
 ghost use Rattle.binlog.specs.Table.{IsNamed, terminator_place, named_schema, named_table, names_fault, IsCodeOf, HasNoColumns};
 ghost use Rattle.binlog.specs.TableView.{table_value};
-ghost use Rattle.binlog.specs.Appending.{AppendsBytes};
+ghost use Rattle.gtid.specs.Appending.{AppendsBytes};
 ghost use Rattle.binlog.specs.Writing.{HasMap, names_bytes, table_map_body};
 
 use crate::bitmap::write_full_bitmap;

@@ -5,7 +5,7 @@ ghost use Rattle.binlog.specs.Count.{count_at, count_width, no_count};
 ghost use Rattle.binlog.specs.Table.{most_columns, AreColumns, columns_fault, codes_at, metadata_place, metadata_length, types_fault, all_metadata_fault};
 ghost use Rattle.binlog.specs.declared.column.kind.ColumnKind.{ColumnKind};
 ghost use Rattle.binlog.specs.declared.fault.EventFaultKind.TheVariants.{Columns};
-ghost use Rattle.binlog.specs.Appending.{AppendsBytes};
+ghost use Rattle.gtid.specs.Appending.{AppendsBytes};
 ghost use Rattle.binlog.specs.Column.{type_code, metadata};
 
 use crate::column::kind::ColumnType;

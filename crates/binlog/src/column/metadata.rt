@@ -4,7 +4,7 @@ ghost use Rattle.std.specs.Prelude.{◌≡◌, ℕ, ◌+◌, ◌<◌, List, [], 
 ghost use Rattle.binlog.specs.ColumnCode as column_code;
 ghost use Rattle.binlog.specs.Column.{type_code, metadata, is_lawful, IsColumn, metadata_size, metadata_fault, string_fault, real_type, string_length, when, column_fault};
 ghost use Rattle.binlog.specs.declared.fault.EventFaultKind.TheVariants.{Metadata};
-ghost use Rattle.binlog.specs.Appending.{AppendsBytes};
+ghost use Rattle.gtid.specs.Appending.{AppendsBytes};
 
 use crate::column::codes;
 use crate::column::kind::{ColumnKind, ColumnType};

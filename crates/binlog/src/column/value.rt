@@ -6,7 +6,7 @@ ghost use Rattle.binlog.specs.Cell.{cell_value, owned_value};
 ghost use Rattle.binlog.specs.Column.{is_lawful};
 ghost use Rattle.binlog.specs.Shape.{shape, digits_size, prefix_of, is_readable, value_end, cell_of};
 ghost use Rattle.binlog.specs.RowsWritten.{value_fits, value_bytes};
-ghost use Rattle.binlog.specs.Appending.{AppendsBytes};
+ghost use Rattle.gtid.specs.Appending.{AppendsBytes};
 
 use crate::cell::{Cell, OwnedCell};
 use crate::column::kind::{ColumnKind, ColumnType};

@@ -1,7 +1,7 @@
 use Rattle.binlog.proofs.Names.{◌≡◌, ℕ, ◌<◌, ◌∷◌, [], List, length, ◌+◌, map, ap, rules, arith, is_null, owned_values, bitmap_size, bitmap_byte}
 use Rattle.binlog.specs.declared.cell.OwnedCell.{OwnedCell}
 use Rattle.binlog.proofs.FullBitmap.{bytes_from, from_first, next_byte, from_last}
-use Rattle.binlog.proofs.Prefixes.{first_write, next_fits, next_write, last_write}
+use Rattle.gtid.proofs.Appending.{first_write, next_fits, next_write, last_write}
 use Rattle.binlog.proofs.RowWriting.{bits_length}
 use Rattle.binlog.proofs.bitmap.write_bitmap.Goals as goal
 

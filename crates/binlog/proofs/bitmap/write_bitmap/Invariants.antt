@@ -1,6 +1,6 @@
 use Rattle.binlog.proofs.Names.{map, is_null, owned_values}
 use Rattle.binlog.specs.RowsWritten.{bitmap_bytes}
-use Rattle.binlog.proofs.Prefixes.{Writes}
+use Rattle.gtid.proofs.Appending.{Writes}
 use Rattle.binlog.proofs.FullBitmap.{bytes_from}
 use Rattle.binlog.proofs.bitmap.write_bitmap.Given as goal
 

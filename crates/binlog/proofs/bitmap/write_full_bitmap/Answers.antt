@@ -1,7 +1,7 @@
 use Rattle.binlog.proofs.Names.{◌≡◌, ℕ, ◌<◌, ◌∷◌, [], ◌+◌, ◌-◌, ◌*◌, true, replicate, ap, ◌∙◌, rules, arith, nat_lt, length-replicate, bitmap_size}
 use Rattle.binlog.specs.RowsWritten.{bits_number}
 use Rattle.binlog.proofs.FullBitmap.{byte_is, bytes_from, from_first, next_byte, from_last}
-use Rattle.binlog.proofs.Prefixes.{first_write, next_fits, next_write, last_write}
+use Rattle.gtid.proofs.Appending.{first_write, next_fits, next_write, last_write}
 use Rattle.binlog.proofs.bitmap.write_full_bitmap.Goals as goal
 
 next : (n j byte : ℕ) → j < bitmap_size n → byte ≡ bits_number 8 (λ i. nat_lt i (n - 8 * j)) → bytes_from (replicate n true) j ≡ byte ∷ bytes_from (replicate n true) (j + 1)

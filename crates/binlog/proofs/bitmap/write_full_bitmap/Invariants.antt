@@ -1,5 +1,5 @@
 use Rattle.binlog.proofs.Names.{replicate, true, full_bitmap}
-use Rattle.binlog.proofs.Prefixes.{Writes}
+use Rattle.gtid.proofs.Appending.{Writes}
 use Rattle.binlog.proofs.FullBitmap.{bytes_from}
 use Rattle.binlog.proofs.bitmap.write_full_bitmap.Given as goal
 

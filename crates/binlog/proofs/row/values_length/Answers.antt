@@ -1,5 +1,6 @@
 use Rattle.binlog.proofs.Names.{◌∙◌, ◌+◌, ap, arith, length, length-append, owned_value, shape, value_bytes, value_fits}
-use Rattle.binlog.proofs.RowWriting.{value_there, values_from, value_next, values_end, sum_next, sum_all}
+use Rattle.binlog.proofs.RowWriting.{value_there, values_from, value_next, values_end}
+use Rattle.gtid.proofs.Appending.{sum_next, sum_all}
 use Rattle.binlog.proofs.row.values_length.Goals as goal
 
 pub value_length-requires-clause-fits : goal.value_length-requires-clause-fits

@@ -1,6 +1,6 @@
 use Rattle.binlog.proofs.Names.{◌∙◌, ◌+◌, ap, refl, arith, length, subst, owned_value, shape, value_bytes, value_fits}
-use Rattle.binlog.specs.Appending.{AppendsBytes}
-use Rattle.binlog.proofs.Prefixes.{first_write, next_fits, next_write, last_write}
+use Rattle.gtid.specs.Appending.{AppendsBytes}
+use Rattle.gtid.proofs.Appending.{first_write, next_fits, next_write, last_write}
 use Rattle.binlog.proofs.RowWriting.{value_there, values_from, value_next, values_end}
 use Rattle.binlog.proofs.row.write_values.Goals as goal
 

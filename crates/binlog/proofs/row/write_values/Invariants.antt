@@ -1,5 +1,5 @@
 use Rattle.binlog.proofs.Names.{owned_values, kinds, values_bytes}
-use Rattle.binlog.proofs.Prefixes.{Writes}
+use Rattle.gtid.proofs.Appending.{Writes}
 use Rattle.binlog.proofs.RowWriting.{values_from}
 use Rattle.binlog.proofs.row.write_values.Given as goal
 

@@ -1,7 +1,8 @@
 use Rattle.binlog.proofs.Names.{◌∙◌, ◌+◌, ap, length, length-append, kinds}
 use Rattle.binlog.specs.RowsView.{owned_pair}
 use Rattle.binlog.specs.RowsWritten.{pair_bytes}
-use Rattle.binlog.proofs.RowWriting.{pair_there, rows_from, pair_next, pairs_end, sum_next, sum_all}
+use Rattle.binlog.proofs.RowWriting.{pair_there, rows_from, pair_next, pairs_end}
+use Rattle.gtid.proofs.Appending.{sum_next, sum_all}
 use Rattle.binlog.proofs.rows.rows_length.Goals as goal
 
 pub pair_length-requires : goal.pair_length-requires

@@ -1,5 +1,6 @@
 use Rattle.binlog.proofs.Names.{length, kinds, owned_pairs, rows_bytes}
-use Rattle.binlog.proofs.RowWriting.{rows_from, Sums}
+use Rattle.binlog.proofs.RowWriting.{rows_from}
+use Rattle.gtid.proofs.Appending.{Sums}
 use Rattle.binlog.proofs.rows.rows_length.Given as goal
 
 abbrev pub invariant-loop-pair : goal.invariant-loop-pair

@@ -1,7 +1,7 @@
 use Rattle.binlog.proofs.Names.{◌+◌, refl, kinds}
 use Rattle.binlog.specs.RowsView.{owned_pair}
 use Rattle.binlog.specs.RowsWritten.{pair_bytes}
-use Rattle.binlog.proofs.Prefixes.{first_write, next_fits, next_write, last_write}
+use Rattle.gtid.proofs.Appending.{first_write, next_fits, next_write, last_write}
 use Rattle.binlog.proofs.RowWriting.{pair_there, rows_from, pair_next, pairs_end}
 use Rattle.binlog.proofs.rows.write_pairs.Goals as goal
 

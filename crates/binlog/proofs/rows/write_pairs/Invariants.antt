@@ -1,5 +1,5 @@
 use Rattle.binlog.proofs.Names.{kinds, owned_pairs, rows_bytes}
-use Rattle.binlog.proofs.Prefixes.{Writes}
+use Rattle.gtid.proofs.Appending.{Writes}
 use Rattle.binlog.proofs.RowWriting.{rows_from}
 use Rattle.binlog.proofs.rows.write_pairs.Given as goal
 

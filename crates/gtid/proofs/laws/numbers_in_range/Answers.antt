@@ -1,5 +1,5 @@
 use Rattle.std.proofs.Common.{◌∙◌}
-use Rattle.gtid.proofs.AsciiText.{listed_number}
+use Rattle.gtid.proofs.GroupText.{listed_number}
 use Rattle.gtid.proofs.Sets.{contained}
 use Rattle.gtid.proofs.laws.numbers_in_range.Goals as goal
 

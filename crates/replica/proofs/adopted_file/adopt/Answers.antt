@@ -16,4 +16,4 @@ returns-in-Ok-adopt-clause-adopts g c clean old holds =
 
 pub returns-in-Err-clause-adopts : goal.returns-in-Err-clause-adopts
 returns-in-Err-clause-adopts g c clean old holds =
-    not_added g.S.Store c.args.store.now c.adopt.new.self old c.args.gtids.now c.in-Err.fault c.adopt.ensures.following (c.in-Err.ensures.adopts clean old holds) (c.in-Err.ensures.crash clean old holds)
+    not_added g.S.Store c.args.store.now c.adopt.new.self old c.args.gtids.now c.in-Err.fault c.adopt.ensures.rest.following (c.in-Err.ensures.adopts clean old holds) (c.in-Err.ensures.crash clean old holds)

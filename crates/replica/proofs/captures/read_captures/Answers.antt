@@ -96,43 +96,10 @@ returns-clause-reads g c clean was old holds =
     subst (λ (l : List (Capture g.row.R.Denot)). AreRead g.R.Read.remaining (HasReadAll g.S.Store c.args.config.now.limit c.loop-capture.store (state g.S.Store c.args.store.now.conn).now.schema was old) l c.loop-capture.ends.items)
     (ap (λ n. take n all) end.1 ∙ take-length all) (inv.taken clean was old holds)
 
-pub returns-in-Err-clause-may_end : goal.returns-in-Err-clause-may_end
-returns-in-Err-clause-may_end g c = ends_later c.loop-capture.ends.items (g.W.Observer.account c.loop-capture.observer) (g.W.Observer.account c.read_capture.new.observer) c.loop-capture.invariant.heeds c.loop-capture.invariant.may
-
-pub returns-then-not-goes_on-clause-may_end : goal.returns-then-not-goes_on-clause-may_end
-returns-then-not-goes_on-clause-may_end g c =
-    more_ends c.loop-capture.ends.items c.in-Ok.end (g.W.Observer.account c.loop-capture.observer) (g.W.Observer.account c.read_capture.new.observer) (g.W.Observer.account c.ended-goes_on.new.self) (ended c.in-Ok.end c.ended-goes_on.result ∷ []) c.push_reserved.new.self.items
-    c.loop-capture.invariant.heeds c.ended-goes_on.ensures.noticed.stays c.ended-goes_on.ensures.noticed.waits c.push_reserved.ensures.items c.loop-capture.invariant.may c.in-Ok.ensures.may_end
-
-pub returns-clause-may_end : goal.returns-clause-may_end
-returns-clause-may_end g c = c.loop-capture.invariant.may
-
-pub returns-then-not-goes_on-clause-asked : goal.returns-then-not-goes_on-clause-asked
-returns-then-not-goes_on-clause-asked g c is = not-false _ (sym c.ended-goes_on.ensures.goes_on ∙ c.if-not-goes_on.true)
-
-pub returns-in-Err-clause-no_more : goal.returns-in-Err-clause-no_more
-returns-in-Err-clause-no_more g c on = none_yet c.loop-capture.ends.items (g.W.Observer.account c.loop-capture.observer).has_stopped c.loop-capture.invariant.heeds (c.loop-capture.invariant.keeps.stays on)
-
-pub returns-then-not-goes_on-clause-no_more : goal.returns-then-not-goes_on-clause-no_more
-returns-then-not-goes_on-clause-no_more g c on =
-    one_at_most c.loop-capture.ends.items c.in-Ok.end c.push_reserved.new.self.items c.push_reserved.ensures.items (g.W.Observer.account c.loop-capture.observer).has_stopped c.loop-capture.invariant.heeds (c.loop-capture.invariant.keeps.stays on)
-
-pub returns-clause-no_more : goal.returns-clause-no_more
-returns-clause-no_more g c on = none_yet c.loop-capture.ends.items (g.W.Observer.account c.loop-capture.observer).has_stopped c.loop-capture.invariant.heeds (c.loop-capture.invariant.keeps.stays on)
-
 pub returns-then-is_done-clause-reads : goal.returns-then-is_done-clause-reads
 returns-then-is_done-clause-reads g c clean was old holds =
     subst (λ (l : List Ended). AreRead g.R.Read.remaining (HasReadAll g.S.Store c.args.config.now.limit c.args.store.now (state g.S.Store c.args.store.now.conn).now.schema was old) (take (length l) c.args.captures.items) l) (sym c.requires.none)
     (no_captures g.S.Store g.R.Read.remaining (λ h db is_open may. g.met.S.Store.settled h.store db is_open may) c.args.config.now.limit c.args.store.now was old holds)
-
-pub returns-then-is_done-clause-may_end : goal.returns-then-is_done-clause-may_end
-returns-then-is_done-clause-may_end g c = subst (λ (l : List Ended). All (λ (e : Ended). MayEnd e.reason (g.W.Observer.account c.opened.new.self)) l) (sym c.requires.none) (search rules)
-
-pub returns-then-is_done-clause-asked : goal.returns-then-is_done-clause-asked
-returns-then-is_done-clause-asked g c is = c.is_done.ensures.stopped c.if-is_done.true
-
-pub returns-then-is_done-clause-no_more : goal.returns-then-is_done-clause-no_more
-returns-then-is_done-clause-no_more g c on = none_yet c.args.ends.now.items (g.W.Observer.account c.opened.new.self).has_stopped (λ some. absurd (some c.requires.none)) (c.opened.ensures.noticed.stays on)
 
 pub returns-then-is_done-clause-keeps : goal.returns-then-is_done-clause-keeps
 returns-then-is_done-clause-keeps g c =
@@ -150,3 +117,37 @@ returns-then-not-goes_on-clause-keeps g c =
     since_then g.S.Store inv.heeds c.push_reserved.ensures.items (λ some. inv.missed) inv.keeps
     (keeps_then g.S.Store c.read_capture.ensures.keeps
     (keeps_ended g.S.Store c.ended-goes_on.ensures.noticed c.ended-goes_on.ensures.goes_on))
+
+pub returns-then-is_done-clause-heeded : goal.returns-then-is_done-clause-heeded
+returns-then-is_done-clause-heeded g c = record {
+  asked = λ is. c.is_done.ensures.stopped c.if-is_done.true;
+  may_end = subst (λ (l : List Ended). All (λ (e : Ended). MayEnd e.reason (g.W.Observer.account c.opened.new.self)) l) (sym c.requires.none) (search rules);
+  heeds = search rules;
+  no_more = λ on. none_yet c.args.ends.now.items (g.W.Observer.account c.opened.new.self).has_stopped (λ some. absurd (some c.requires.none)) (c.opened.ensures.noticed.stays on);
+}
+
+pub returns-in-Err-clause-heeded : goal.returns-in-Err-clause-heeded
+returns-in-Err-clause-heeded g c = record {
+  asked = search rules;
+  may_end = ends_later c.loop-capture.ends.items (g.W.Observer.account c.loop-capture.observer) (g.W.Observer.account c.read_capture.new.observer) c.loop-capture.invariant.heeds c.loop-capture.invariant.may;
+  heeds = search rules;
+  no_more = λ on. none_yet c.loop-capture.ends.items (g.W.Observer.account c.loop-capture.observer).has_stopped c.loop-capture.invariant.heeds (c.loop-capture.invariant.keeps.stays on);
+}
+
+pub returns-then-not-goes_on-clause-heeded : goal.returns-then-not-goes_on-clause-heeded
+returns-then-not-goes_on-clause-heeded g c = record {
+  asked = λ is. not-false _ (sym c.ended-goes_on.ensures.goes_on ∙ c.if-not-goes_on.true);
+  may_end = more_ends c.loop-capture.ends.items c.in-Ok.end (g.W.Observer.account c.loop-capture.observer) (g.W.Observer.account c.read_capture.new.observer) (g.W.Observer.account c.ended-goes_on.new.self) (ended c.in-Ok.end c.ended-goes_on.result ∷ []) c.push_reserved.new.self.items
+      c.loop-capture.invariant.heeds c.ended-goes_on.ensures.noticed.stays c.ended-goes_on.ensures.noticed.waits c.push_reserved.ensures.items c.loop-capture.invariant.may c.in-Ok.ensures.may_end;
+  heeds = search rules;
+  no_more = λ on.
+      one_at_most c.loop-capture.ends.items c.in-Ok.end c.push_reserved.new.self.items c.push_reserved.ensures.items (g.W.Observer.account c.loop-capture.observer).has_stopped c.loop-capture.invariant.heeds (c.loop-capture.invariant.keeps.stays on);
+}
+
+pub returns-clause-heeded : goal.returns-clause-heeded
+returns-clause-heeded g c = record {
+  asked = search rules;
+  may_end = c.loop-capture.invariant.may;
+  heeds = λ done. c.loop-capture.invariant.heeds;
+  no_more = λ on. none_yet c.loop-capture.ends.items (g.W.Observer.account c.loop-capture.observer).has_stopped c.loop-capture.invariant.heeds (c.loop-capture.invariant.keeps.stays on);
+}

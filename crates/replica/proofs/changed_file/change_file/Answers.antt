@@ -14,14 +14,14 @@ returns-clause-closing g c =
     closes_as (wanted_of c.args.only) (image_at g.P.Start) c.in_ok-store.store c.change-applied.new.store.conn c.close_file-closed.result
     c.change-applied.ensures.keeps.clean c.in_ok-store.ensures.opens c.in_ok-store.ensures.entered c.close_file-closed.ensures.copied c.close_file-closed.ensures.err
 
-pub returns-clause-keeps : goal.returns-clause-keeps
-returns-clause-keeps g c on begun names content files =
-    keeps_whole _ names content c.in_ok-store.store c.change-applied.new.store (λ file. inl refl) (names_for (wanted_of c.args.only)) (adopted content c.args.gtids.now) c.close_file-closed.result
-    c.change-applied.ensures.keeps.following (λ clean. let o = c.in_ok-store.ensures.opens (c.change-applied.ensures.keeps.clean clean) names content files in (o.0, o.1))
-    (λ clean holds. c.change-applied.ensures.heeds clean content holds on begun) c.close_file-closed.ensures.copied c.close_file-closed.ensures.err
-
-pub returns-clause-notes : goal.returns-clause-notes
-returns-clause-notes g c begun names content files =
-    noted_of_files _ names content c.in_ok-store.store c.change-applied.new.store (λ file. inl refl) (adopted content c.args.gtids.now) (g.W.Observer.account c.args.observer.now) (g.W.Observer.account c.change-applied.new.observer) [] c.close_file-closed.result
-    c.change-applied.ensures.keeps.following (λ clean. let o = c.in_ok-store.ensures.opens (c.change-applied.ensures.keeps.clean clean) names content files in (o.0, o.1))
-    (λ clean holds. c.change-applied.ensures.notes clean content holds begun) c.close_file-closed.ensures.copied c.close_file-closed.ensures.err
+pub returns-clause-noted : goal.returns-clause-noted
+returns-clause-noted g c begun = record {
+  notes = λ names content files.
+      noted_of_files _ names content c.in_ok-store.store c.change-applied.new.store (λ file. inl refl) (adopted content c.args.gtids.now) (g.W.Observer.account c.args.observer.now) (g.W.Observer.account c.change-applied.new.observer) [] c.close_file-closed.result
+      c.change-applied.ensures.keeps.following (λ clean. let o = c.in_ok-store.ensures.opens (c.change-applied.ensures.keeps.clean clean) names content files in (o.0, o.1))
+      (λ clean holds. c.change-applied.ensures.notes clean content holds begun) c.close_file-closed.ensures.copied c.close_file-closed.ensures.err;
+  keeps = λ on names content files.
+      keeps_whole _ names content c.in_ok-store.store c.change-applied.new.store (λ file. inl refl) (names_for (wanted_of c.args.only)) (adopted content c.args.gtids.now) c.close_file-closed.result
+      c.change-applied.ensures.keeps.following (λ clean. let o = c.in_ok-store.ensures.opens (c.change-applied.ensures.keeps.clean clean) names content files in (o.0, o.1))
+      (λ clean holds. c.change-applied.ensures.heeds clean content holds on begun) c.close_file-closed.ensures.copied c.close_file-closed.ensures.err;
+}

@@ -18,7 +18,7 @@ returns-clause-step g c clean is now es ds p gatherer holds more =
     let new = c.apply.new.self in
     elim is as (λ b. HoldsAs g.S.Store b now store → TakesEvent g.S.Store (so_far b now es ds) p store new gatherer c.outcome-outcome.result) [
       | true ↦ λ holds. over_broken g.S.Store es ds p now store new d gatherer c.apply.result c.outcome-outcome.result holds more (c.apply.ensures.broken holds.broken) c.outcome-outcome.ensures.maps
-      | false ↦ λ holds. over_whole g.S.Store es ds p now store new d gatherer c.apply.result c.outcome-outcome.result holds more (c.apply.ensures.applies clean now holds) (c.apply.ensures.schema clean now holds)
+      | false ↦ λ holds. over_whole g.S.Store es ds p now store new d gatherer c.apply.result c.outcome-outcome.result holds more (c.apply.ensures.applies clean now holds) (c.apply.ensures.rest.schema clean now holds)
           (c.apply.ensures.crash clean now holds) c.outcome-outcome.ensures.maps
     ] holds
 
@@ -50,7 +50,7 @@ returns-then-is_halted-clause-keeps g c = record {
 
 pub returns-clause-keeps : goal.returns-clause-keeps
 returns-clause-keeps g c = record {
-  store = record { following = c.apply.ensures.following; broken = λ b. (c.apply.ensures.broken b).1; clean = c.apply.ensures.clean };
+  store = record { following = c.apply.ensures.rest.following; broken = λ b. (c.apply.ensures.broken b).1; clean = c.apply.ensures.rest.clean };
   stays = λ on. c.after_apply.ensures.noticed.stays (c.is_halted.ensures.stays on);
   heeds = λ is now holds on.
       heeded g.S.Store is now (delivery_value c.args.delivery.now) c.args.store.now c.apply.new.self c.is_halted.result (g.W.Observer.account c.is_halted.new.observer).has_stopped holds (c.is_halted.ensures.heeds is now holds) (c.is_halted.ensures.stays on) c.if-is_halted.false
@@ -70,7 +70,7 @@ returns-clause-keeps g c = record {
       } in
       elim was as (λ b. HoldsAs g.S.Store b old store → IsLedOver g.S.Store store new b old t0 t2 []) [
         | true ↦ λ holds. led_broken g.S.Store old store new d t0 t1 t2 c.apply.result c.outcome-outcome.result holds (c.apply.ensures.broken holds.broken) c.outcome-outcome.ensures.maps asks
-        | false ↦ λ holds. led_whole g.S.Store old store new d t0 t1 t2 c.apply.result c.outcome-outcome.result holds (c.apply.ensures.applies clean old holds) c.apply.ensures.following
+        | false ↦ λ holds. led_whole g.S.Store old store new d t0 t1 t2 c.apply.result c.outcome-outcome.result holds (c.apply.ensures.applies clean old holds) c.apply.ensures.rest.following
             (taken_alone g.S.Store old store new d c.apply.result c.outcome-outcome.result holds (c.apply.ensures.applies clean old holds) (c.apply.ensures.crash clean old holds) c.outcome-outcome.ensures.maps) c.outcome-outcome.ensures.maps asks
       ] holds;
 }

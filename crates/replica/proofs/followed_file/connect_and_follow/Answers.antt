@@ -9,7 +9,7 @@ returns-in-Ok-clause-connects g c clean held holds =
       stream = c.in-Ok.stream;
       given = subst (λ (ids : Ids). g.C.Connect.gives c.args.connect ids (Ok c.in-Ok.stream)) (c.executed-executed.ensures.value held.broken held.content holds) c.in-Ok.ensures;
       follows = followed.follows clean held.broken held.content holds;
-      reported = followed.reported;
+      reported = followed.failures.reported;
     }
 
 pub returns-in-Err-clause-connects : goal.returns-in-Err-clause-connects

@@ -1,11 +1,11 @@
-use Rattle.replica.proofs.Names.{Bool, length, arith, ◌≡◌, ◌≢◌, ◌++◌, true, Option, None, is_some, unwrap_or, sym, ap, ◌∙◌, subst, refl, rules, false≢true, reported_as, Ended, Reason, EndOfInput, Memory, WriteFailed, ReadFailed, Until, Session, HaveFailed, database, IsNoStreamFailure, MayEnd, end_of}
+use Rattle.replica.proofs.Names.{◌+◌, Bool, length, arith, ◌≡◌, ◌≢◌, ◌++◌, true, Option, None, is_some, unwrap_or, sym, ap, ◌∙◌, subst, refl, rules, false≢true, reported_as, Ended, EndOfInput, Memory, WriteFailed, ReadFailed, Until, Session, HaveFailed, database, IsNoStreamFailure, MayEnd, end_of}
 use Rattle.std.proofs.Common.{if◌then◌else◌}
 use Rattle.std.proofs.KnownBytes.{Appends-kept, Keeps-trans}
 use Rattle.replica.specs.declared.following.Turn.{Turn}
 use Rattle.replica.specs.declared.following.Turn.TheVariants as turn
-use Rattle.replica.specs.Follow.{Follows, exchange, reads_failed, failed_reads_of, failed_writes_of}
+use Rattle.replica.specs.Follow.{Follows, exchange, reads_failed, ReportsFailures}
 use Rattle.replica.proofs.ObserverEnds.{asked, not_of_stream}
-use Rattle.replica.proofs.StreamFailures.{none_failed, failed_later, failed_none, counted_none}
+use Rattle.replica.proofs.StreamFailures.{none_failed, failed_later, reports, reports_none}
 use Rattle.replica.proofs.Advance.{none_after}
 use Rattle.replica.proofs.FollowEnds.{follows-memory, follows-until, follows-sends_no_more, follows-write_failed, follows-ended, follows-read_failed, following-begins, following-sent, following-read, follows-same, some_after, ended_early, over-out, length_kept}
 use Rattle.replica.proofs.Keeps.{keeps_same, keeps_then}
@@ -139,60 +139,6 @@ returns-in-Failed-clause-follows g c clean was old holds =
     after (g.T.Read.remaining c.read_piece.new.stream.stream) (g.T.Write.contents c.read_piece.new.stream.stream) sent.0 sent.1 (Keeps-trans (g.T.Read.remaining c.turns.stream.stream) (g.T.Read.remaining c.send_pending.new.stream.stream) (g.T.Read.remaining c.read_piece.new.stream.stream) c.send_pending.ensures.apart still.3) (Appends-kept (g.T.Write.contents c.turns.stream.stream) (g.T.Write.contents c.send_pending.new.stream.stream) (g.T.Write.contents c.read_piece.new.stream.stream) sent.0 sent.2 c.read_piece.ensures.apart)
     sent.4 (sent.3 c.if-not-send_pending.false) at_end))
 
-pub returns-then-sends_no_more-clause-counted : goal.returns-then-sends_no_more-clause-counted
-returns-then-sends_no_more-clause-counted g c =
-    let inv = c.turns.invariant in
-    counted_none c.finish.result.reason (subst (λ (e : Ended). IsNoStreamFailure e.reason) (sym c.finish.ensures.end) inv.may_end) c.args.stream.now.failed_reads c.turns.stream.failed_reads c.args.stream.now.failed_writes c.turns.stream.failed_writes inv.reads inv.writes
-
-pub returns-then-sends_no_more-clause-reported : goal.returns-then-sends_no_more-clause-reported
-returns-then-sends_no_more-clause-reported g c =
-    let inv = c.turns.invariant in
-    failed_none c.finish.result.reason (subst (λ (e : Ended). IsNoStreamFailure e.reason) (sym c.finish.ensures.end) inv.may_end) (g.T.Duplex.failures c.args.stream.now.stream) (g.T.Duplex.failures c.turns.stream.stream) inv.reported
-
-pub returns-then-not-send_pending-clause-reported : goal.returns-then-not-send_pending-clause-reported
-returns-then-not-send_pending-clause-reported g c =
-    let inv = c.turns.invariant in
-    let start = g.T.Duplex.failures c.args.stream.now.stream in
-    let before = g.T.Duplex.failures c.turns.stream.stream in
-    let after = g.T.Duplex.failures c.send_pending.new.stream.stream in
-    let reported : HaveFailed before after 0 1 = subst (λ (b : Bool). HaveFailed before after 0 (if b then 0 else 1)) c.if-not-send_pending.true c.send_pending.ensures.reported in
-    subst (λ (r : Reason). HaveFailed start after (failed_reads_of r) (failed_writes_of r)) (sym (ap (λ (e : Ended). e.reason) c.ended_with-then-not-send_pending.ensures)) (failed_later start before after 0 1 inv.reported reported)
-
-pub returns-then-is_some-clause-reported : goal.returns-then-is_some-clause-reported
-returns-then-is_some-clause-reported g c =
-    let inv = c.turns.invariant in
-    let start = g.T.Duplex.failures c.args.stream.now.stream in
-    let before = g.T.Duplex.failures c.turns.stream.stream in
-    let after = g.T.Duplex.failures c.send_pending.new.stream.stream in
-    let reported : HaveFailed before after 0 0 = subst (λ (b : Bool). HaveFailed before after 0 (if b then 0 else 1)) c.if-not-send_pending.false c.send_pending.ensures.reported in
-    let may_end = subst (λ (e : Ended). IsNoStreamFailure e.reason) (sym (c.finish-then-is_some.ensures.end ∙ c.send_pending.ensures.sent.4.end)) inv.may_end in
-    failed_none c.finish-then-is_some.result.reason may_end start after (failed_later start before after 0 0 inv.reported reported)
-
-pub returns-in-AtEnd-clause-reported : goal.returns-in-AtEnd-clause-reported
-returns-in-AtEnd-clause-reported g c =
-    let inv = c.turns.invariant in
-    let start = g.T.Duplex.failures c.args.stream.now.stream in
-    let before = g.T.Duplex.failures c.turns.stream.stream in
-    let mid = g.T.Duplex.failures c.send_pending.new.stream.stream in
-    let after = g.T.Duplex.failures c.read_piece.new.stream.stream in
-    let not_read : c.read_piece.result ≢ turn.Read = λ h. let bad : turn.AtEnd ≡ turn.Read = sym c.in-AtEnd.is ∙ h in cc in
-    let still = c.read_piece.ensures.still not_read in
-    let sent : HaveFailed before mid 0 0 = subst (λ (b : Bool). HaveFailed before mid 0 (if b then 0 else 1)) c.if-not-send_pending.false c.send_pending.ensures.reported in
-    let reported : HaveFailed mid after 0 0 = subst (λ (t : Turn). HaveFailed mid after (reads_failed t) 0) c.in-AtEnd.is c.read_piece.ensures.reported in
-    let may_end = subst (λ (e : Ended). IsNoStreamFailure e.reason) (sym (c.finish-in-AtEnd.ensures.end ∙ ap (λ (s : Session). end_of s) still.0 ∙ c.send_pending.ensures.sent.4.end)) inv.may_end in
-    failed_none c.finish-in-AtEnd.result.reason may_end start after (failed_later start before after 0 0 inv.reported (failed_later before mid after 0 0 sent reported))
-
-pub returns-in-Failed-clause-reported : goal.returns-in-Failed-clause-reported
-returns-in-Failed-clause-reported g c =
-    let inv = c.turns.invariant in
-    let start = g.T.Duplex.failures c.args.stream.now.stream in
-    let before = g.T.Duplex.failures c.turns.stream.stream in
-    let mid = g.T.Duplex.failures c.send_pending.new.stream.stream in
-    let after = g.T.Duplex.failures c.read_piece.new.stream.stream in
-    let sent : HaveFailed before mid 0 0 = subst (λ (b : Bool). HaveFailed before mid 0 (if b then 0 else 1)) c.if-not-send_pending.false c.send_pending.ensures.reported in
-    let reported : HaveFailed mid after 1 0 = subst (λ (t : Turn). HaveFailed mid after (reads_failed t) 0) c.in-Failed.is c.read_piece.ensures.reported in
-    subst (λ (r : Reason). HaveFailed start after (failed_reads_of r) (failed_writes_of r)) (sym (ap (λ (e : Ended). e.reason) c.ended_with-in-Failed.ensures)) (failed_later start before after 1 0 inv.reported (failed_later before mid after 1 0 sent reported))
-
 pub returns-then-sends_no_more-clause-asked : goal.returns-then-sends_no_more-clause-asked
 returns-then-sends_no_more-clause-asked g c =
     asked c.finish.result.reason (g.W.Observer.account c.turns.observer) (subst (λ (e : Ended). MayEnd e.reason (g.W.Observer.account c.turns.observer)) (sym c.finish.ensures.end) c.turns.invariant.may)
@@ -251,3 +197,72 @@ returns-in-AtEnd-clause-keeps g c = keeps_then g.S.Store c.turns.invariant.keeps
 
 pub returns-in-Failed-clause-keeps : goal.returns-in-Failed-clause-keeps
 returns-in-Failed-clause-keeps g c = keeps_then g.S.Store c.turns.invariant.keeps c.read_piece.ensures.keeps
+
+pub returns-then-is_done-clause-failures : goal.returns-then-is_done-clause-failures
+returns-then-is_done-clause-failures g c =
+    subst (ReportsFailures g.T.Duplex.failures c.args.stream.now c.args.stream.now) (sym (ap (λ (e : Ended). e.reason) c.ended_with.ensures))
+    (reports_none g.T.Duplex.failures c.args.stream.now c.args.stream.now Until tt refl refl (none_failed (g.T.Duplex.failures c.args.stream.now.stream)))
+
+pub returns-in_default-clause-failures : goal.returns-in_default-clause-failures
+returns-in_default-clause-failures g c =
+    subst (ReportsFailures g.T.Duplex.failures c.args.stream.now c.args.stream.now) (sym (ap (λ (e : Ended). e.reason) c.ended_with-in_default.ensures))
+    (reports_none g.T.Duplex.failures c.args.stream.now c.args.stream.now Memory tt refl refl (none_failed (g.T.Duplex.failures c.args.stream.now.stream)))
+
+pub returns-then-sends_no_more-clause-failures : goal.returns-then-sends_no_more-clause-failures
+returns-then-sends_no_more-clause-failures g c =
+    let inv = c.turns.invariant in
+    reports_none g.T.Duplex.failures c.args.stream.now c.turns.stream c.finish.result.reason (subst (λ (e : Ended). IsNoStreamFailure e.reason) (sym c.finish.ensures.end) inv.may_end) inv.reads inv.writes inv.reported
+
+pub returns-then-not-send_pending-clause-failures : goal.returns-then-not-send_pending-clause-failures
+returns-then-not-send_pending-clause-failures g c =
+    let inv = c.turns.invariant in
+    let start = g.T.Duplex.failures c.args.stream.now.stream in
+    let before = g.T.Duplex.failures c.turns.stream.stream in
+    let after = g.T.Duplex.failures c.send_pending.new.stream.stream in
+    let reported : HaveFailed before after 0 1 = subst (λ (b : Bool). HaveFailed before after 0 (if b then 0 else 1)) c.if-not-send_pending.true c.send_pending.ensures.reported in
+    let one : c.send_pending.new.stream.failed_writes ≡ c.turns.stream.failed_writes + 1 = subst (λ (b : Bool). c.send_pending.new.stream.failed_writes ≡ c.turns.stream.failed_writes + (if b then 0 else 1)) c.if-not-send_pending.true c.send_pending.ensures.writes in
+    subst (ReportsFailures g.T.Duplex.failures c.args.stream.now c.send_pending.new.stream) (sym (ap (λ (e : Ended). e.reason) c.ended_with-then-not-send_pending.ensures))
+    (reports g.T.Duplex.failures c.args.stream.now c.send_pending.new.stream WriteFailed (omega (arith, c.send_pending.ensures.reads, inv.reads)) (omega (arith, one, inv.writes)) (failed_later start before after 0 1 inv.reported reported))
+
+pub returns-then-is_some-clause-failures : goal.returns-then-is_some-clause-failures
+returns-then-is_some-clause-failures g c =
+    let inv = c.turns.invariant in
+    let start = g.T.Duplex.failures c.args.stream.now.stream in
+    let before = g.T.Duplex.failures c.turns.stream.stream in
+    let after = g.T.Duplex.failures c.send_pending.new.stream.stream in
+    let reported : HaveFailed before after 0 0 = subst (λ (b : Bool). HaveFailed before after 0 (if b then 0 else 1)) c.if-not-send_pending.false c.send_pending.ensures.reported in
+    let none : c.send_pending.new.stream.failed_writes ≡ c.turns.stream.failed_writes + 0 = subst (λ (b : Bool). c.send_pending.new.stream.failed_writes ≡ c.turns.stream.failed_writes + (if b then 0 else 1)) c.if-not-send_pending.false c.send_pending.ensures.writes in
+    let may_end = subst (λ (e : Ended). IsNoStreamFailure e.reason) (sym (c.finish-then-is_some.ensures.end ∙ c.send_pending.ensures.sent.4.end)) inv.may_end in
+    reports_none g.T.Duplex.failures c.args.stream.now c.send_pending.new.stream c.finish-then-is_some.result.reason may_end (c.send_pending.ensures.reads ∙ inv.reads) (omega (arith, none, inv.writes)) (failed_later start before after 0 0 inv.reported reported)
+
+pub returns-in-AtEnd-clause-failures : goal.returns-in-AtEnd-clause-failures
+returns-in-AtEnd-clause-failures g c =
+    let inv = c.turns.invariant in
+    let start = g.T.Duplex.failures c.args.stream.now.stream in
+    let before = g.T.Duplex.failures c.turns.stream.stream in
+    let mid = g.T.Duplex.failures c.send_pending.new.stream.stream in
+    let after = g.T.Duplex.failures c.read_piece.new.stream.stream in
+    let not_read : c.read_piece.result ≢ turn.Read = λ h. let bad : turn.AtEnd ≡ turn.Read = sym c.in-AtEnd.is ∙ h in cc in
+    let still = c.read_piece.ensures.still not_read in
+    let sent : HaveFailed before mid 0 0 = subst (λ (b : Bool). HaveFailed before mid 0 (if b then 0 else 1)) c.if-not-send_pending.false c.send_pending.ensures.reported in
+    let none : c.send_pending.new.stream.failed_writes ≡ c.turns.stream.failed_writes + 0 = subst (λ (b : Bool). c.send_pending.new.stream.failed_writes ≡ c.turns.stream.failed_writes + (if b then 0 else 1)) c.if-not-send_pending.false c.send_pending.ensures.writes in
+    let reported : HaveFailed mid after 0 0 = subst (λ (t : Turn). HaveFailed mid after (reads_failed t) 0) c.in-AtEnd.is c.read_piece.ensures.reported in
+    let reads : c.read_piece.new.stream.failed_reads ≡ c.send_pending.new.stream.failed_reads + 0 = subst (λ (t : Turn). c.read_piece.new.stream.failed_reads ≡ c.send_pending.new.stream.failed_reads + reads_failed t) c.in-AtEnd.is c.read_piece.ensures.reads in
+    let may_end = subst (λ (e : Ended). IsNoStreamFailure e.reason) (sym (c.finish-in-AtEnd.ensures.end ∙ ap (λ (s : Session). end_of s) still.0 ∙ c.send_pending.ensures.sent.4.end)) inv.may_end in
+    reports_none g.T.Duplex.failures c.args.stream.now c.read_piece.new.stream c.finish-in-AtEnd.result.reason may_end (omega (arith, reads, c.send_pending.ensures.reads, inv.reads)) (omega (arith, c.read_piece.ensures.writes, none, inv.writes))
+    (failed_later start before after 0 0 inv.reported (failed_later before mid after 0 0 sent reported))
+
+pub returns-in-Failed-clause-failures : goal.returns-in-Failed-clause-failures
+returns-in-Failed-clause-failures g c =
+    let inv = c.turns.invariant in
+    let start = g.T.Duplex.failures c.args.stream.now.stream in
+    let before = g.T.Duplex.failures c.turns.stream.stream in
+    let mid = g.T.Duplex.failures c.send_pending.new.stream.stream in
+    let after = g.T.Duplex.failures c.read_piece.new.stream.stream in
+    let sent : HaveFailed before mid 0 0 = subst (λ (b : Bool). HaveFailed before mid 0 (if b then 0 else 1)) c.if-not-send_pending.false c.send_pending.ensures.reported in
+    let none : c.send_pending.new.stream.failed_writes ≡ c.turns.stream.failed_writes + 0 = subst (λ (b : Bool). c.send_pending.new.stream.failed_writes ≡ c.turns.stream.failed_writes + (if b then 0 else 1)) c.if-not-send_pending.false c.send_pending.ensures.writes in
+    let reported : HaveFailed mid after 1 0 = subst (λ (t : Turn). HaveFailed mid after (reads_failed t) 0) c.in-Failed.is c.read_piece.ensures.reported in
+    let reads : c.read_piece.new.stream.failed_reads ≡ c.send_pending.new.stream.failed_reads + 1 = subst (λ (t : Turn). c.read_piece.new.stream.failed_reads ≡ c.send_pending.new.stream.failed_reads + reads_failed t) c.in-Failed.is c.read_piece.ensures.reads in
+    subst (ReportsFailures g.T.Duplex.failures c.args.stream.now c.read_piece.new.stream) (sym (ap (λ (e : Ended). e.reason) c.ended_with-in-Failed.ensures))
+    (reports g.T.Duplex.failures c.args.stream.now c.read_piece.new.stream ReadFailed (omega (arith, reads, c.send_pending.ensures.reads, inv.reads)) (omega (arith, c.read_piece.ensures.writes, none, inv.writes))
+    (failed_later start before after 1 0 inv.reported (failed_later before mid after 1 0 sent reported)))

@@ -1,5 +1,5 @@
 use Rattle.replica.proofs.Names.{arith, length-append}
-use Rattle.gtid.proofs.AsciiText.{all_bytes}
+use Rattle.gtid.proofs.GroupText.{all_bytes}
 use Rattle.replica.proofs.Resumption.{leads, cut}
 use Rattle.replica.proofs.laws.resuming.Goals as goal
 

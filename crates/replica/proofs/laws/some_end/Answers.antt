@@ -1,5 +1,5 @@
 use Rattle.std.proofs.Common.{arith}
-use Rattle.gtid.proofs.AsciiText.{all_bytes}
+use Rattle.gtid.proofs.GroupText.{all_bytes}
 use Rattle.replica.proofs.SomeMessage.{Tables}
 use Rattle.replica.proofs.SomeEnd.{some_end}
 use Rattle.replica.proofs.laws.some_end.Goals as goal

@@ -1,4 +1,4 @@
-use Rattle.replica.proofs.Names.{◌≡◌, inl, inr, Bool, false, true, refl, subst, Ids, Names}
+use Rattle.replica.proofs.Names.{◌≡◌, inl, inr, Bool, false, refl, subst, Ids, Names}
 use Rattle.replica.proofs.ClearStore.{stays_whole, stays_listed}
 use Rattle.replica.proofs.listed_file.list.Goals as goal
 

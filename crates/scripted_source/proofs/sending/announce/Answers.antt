@@ -1,6 +1,6 @@
-use Rattle.scripted_source.proofs.Names.{arith, on_ok}
+use Rattle.scripted_source.proofs.Names.{arith}
 use Rattle.binlog.proofs.EventBytes.{writes_gtid, writes_begin}
-use Rattle.scripted_source.proofs.Packings.{if_appends}
+use Rattle.scripted_source.proofs.Packings.{on_ok, if_appends}
 use Rattle.scripted_source.proofs.sending.announce.Goals as goal
 
 pub send_short-requires-clause-event : goal.send_short-requires-clause-event

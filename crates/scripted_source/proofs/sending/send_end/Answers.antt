@@ -1,4 +1,5 @@
-use Rattle.scripted_source.proofs.Names.{subst, sym, arith, IsWritable, on_ok}
+use Rattle.scripted_source.proofs.Names.{subst, sym, arith, IsWritable}
+use Rattle.scripted_source.proofs.Packings.{on_ok}
 use Rattle.binlog.proofs.EventBytes.{writes_xid, writes_commit}
 use Rattle.scripted_source.specs.Script.{end_event}
 use Rattle.scripted_source.proofs.sending.send_end.Goals as goal

@@ -1,10 +1,10 @@
-use Rattle.scripted_source.proofs.Names.{◌∙◌, ◌≡◌, refl, sym, inl, subst, length, IfOk-from_err, IsWritable, on_ok, part_value}
+use Rattle.scripted_source.proofs.Names.{◌∙◌, ◌≡◌, refl, sym, inl, subst, length, IfOk-from_err, IsWritable, part_value}
 use Rattle.std.proofs.lemmas.List.{length-map}
 use Rattle.binlog.specs.Row.{kinds}
 use Rattle.binlog.specs.RowsView.{rows_value}
 use Rattle.binlog.specs.Event.{rows}
 use Rattle.scripted_source.specs.Script.{rows_of}
-use Rattle.scripted_source.proofs.Packings.{too_long, no_rows, memory_failed, rows_are, RowsSent, rows_sent}
+use Rattle.scripted_source.proofs.Packings.{on_ok, too_long, no_rows, memory_failed, rows_are, RowsSent, rows_sent}
 use Rattle.scripted_source.proofs.sending.send_rows.Goals as goal
 
 pub returns-in_err-bytes-clause-ok : goal.returns-in_err-bytes-clause-ok

@@ -1,6 +1,6 @@
 use Rattle.binlog.proofs.Names.{subst, length_encoded, full_bitmap}
-use Rattle.binlog.specs.Appending.{AppendsBytes}
-use Rattle.binlog.proofs.Prefixes.{appends_then}
+use Rattle.gtid.specs.Appending.{AppendsBytes}
+use Rattle.gtid.proofs.Appending.{appends_then}
 use Rattle.binlog.proofs.body.table_map.write_table_map.Goals as goal
 
 pub returns : goal.returns

@@ -1,5 +1,5 @@
 use Rattle.binlog.proofs.Names.{ap, ◌∙◌, flat_map, metadata}
-use Rattle.binlog.proofs.Prefixes.{first_write, next_fits, next_write, last_write}
+use Rattle.gtid.proofs.Appending.{first_write, next_fits, next_write, last_write}
 use Rattle.binlog.proofs.column.list.write_all_metadata.Goals as goal
 
 pub loop-column-init : goal.loop-column-init

@@ -1,5 +1,5 @@
 use Rattle.binlog.proofs.Names.{◌≡◌, ℕ, List, ◌∷◌, [], map, sym, ap, ◌∙◌, rules, arith, type_code, ColumnKind}
-use Rattle.binlog.proofs.Prefixes.{first_write, next_fits, next_write, last_write}
+use Rattle.gtid.proofs.Appending.{first_write, next_fits, next_write, last_write}
 use Rattle.binlog.proofs.column.list.write_codes.Goals as goal
 
 next : (left rest : List ColumnKind) (kind : ColumnKind) (code : ℕ) → left ≡ kind ∷ rest → code ≡ type_code kind → map type_code left ≡ code ∷ map type_code rest

@@ -1,5 +1,5 @@
 use Rattle.binlog.proofs.Names.{map, type_code}
-use Rattle.binlog.proofs.Prefixes.{Writes}
+use Rattle.gtid.proofs.Appending.{Writes}
 use Rattle.binlog.proofs.column.list.write_codes.Given as goal
 
 abbrev pub invariant-loop-column : goal.invariant-loop-column

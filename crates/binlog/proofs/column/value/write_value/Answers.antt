@@ -1,6 +1,6 @@
 use Rattle.binlog.proofs.Names.{subst, refl, ap, take, length, rules, arith, length-append, owned_value}
-use Rattle.binlog.specs.Appending.{AppendsBytes}
-use Rattle.binlog.proofs.Prefixes.{appends_then}
+use Rattle.gtid.specs.Appending.{AppendsBytes}
+use Rattle.gtid.proofs.Appending.{appends_then}
 use Rattle.binlog.proofs.RowWriting.{number_written, prefixed_written}
 use Rattle.binlog.proofs.column.value.write_value.Goals as goal
 

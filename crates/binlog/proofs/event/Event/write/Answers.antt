@@ -1,7 +1,7 @@
 use Rattle.binlog.proofs.Names.{◌≡◌, ◌+◌, ◌++◌, ◌∙◌, length, rules, event_value}
-use Rattle.binlog.specs.Appending.{AppendsBytes}
+use Rattle.gtid.specs.Appending.{AppendsBytes}
 use Rattle.binlog.specs.Writing.{header_bytes, event_code, event_body}
-use Rattle.binlog.proofs.Prefixes.{appends_then}
+use Rattle.gtid.proofs.Appending.{appends_then}
 use Rattle.binlog.proofs.event.Event.write.Goals as goal
 
 pub returns-clause-ok : goal.returns-clause-ok

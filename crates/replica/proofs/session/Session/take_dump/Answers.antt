@@ -1,4 +1,4 @@
-use Rattle.replica.proofs.Names.{◌≡◌, ◌+◌, ◌^◌, ◌<◌, ◌++◌, refl, sym, ap, subst, ◌∙◌, length, arith, Session, GoesOn, due_of}
+use Rattle.replica.proofs.Names.{◌≡◌, ◌+◌, ◌^◌, ◌<◌, refl, sym, ap, subst, ◌∙◌, length, arith, Session, GoesOn, due_of}
 use Rattle.std.proofs.Common.{if◌then◌else◌}
 use Rattle.replica.specs.Standing.{parts_of, sends_on}
 use Rattle.replica.proofs.PayloadSteps.{rest_length}

@@ -1,4 +1,4 @@
-use Rattle.replica.proofs.Names.{◌≡◌, ◌+◌, ◌++◌, unwrap_or, refl, sym, ap, subst, ◌∙◌, length, arith, IsInDump, next_due, due_at, due_of, end_of, HasEnded, Ended, EndOfInput, IsOwn, IsAnswered, EndsAt}
+use Rattle.replica.proofs.Names.{◌≡◌, ◌+◌, unwrap_or, refl, sym, ap, subst, ◌∙◌, length, arith, IsInDump, next_due, due_at, due_of, end_of, HasEnded, Ended, EndOfInput, IsOwn, IsAnswered, EndsAt}
 use Rattle.replica.specs.Standing.{parts_of, sends_on}
 use Rattle.replica.proofs.PayloadSteps.{stands_going, stands_ended, nothing_taken, message_goes_on, message_ends_it, rest_length, not_dump, some-none}
 use Rattle.replica.proofs.session.Session.take_message.Goals as goal

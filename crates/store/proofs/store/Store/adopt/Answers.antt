@@ -1,10 +1,10 @@
-use Rattle.store.proofs.Names.{inl, inr, refl, sym, ap, subst, ◌∙◌, IsAtRest, AreOf}
+use Rattle.store.proofs.Names.{inl, inr, refl, rules, sym, ap, subst, ◌∙◌, IsAtRest, AreOf}
 use Rattle.std.specs.FinSet as set
 use Rattle.sqlite.specs.Held.{state}
 use Rattle.store.specs.Changes.{adopted}
 use Rattle.store.specs.Store.{Holds}
-use Rattle.store.proofs.BesideStays.{beside_same, beside_unchanged}
-use Rattle.store.proofs.ExecutedInMemory.{rest_same, stays, spares, spares_either}
+use Rattle.store.proofs.BesideStays.{beside_unchanged}
+use Rattle.store.proofs.ExecutedInMemory.{rest_same, stays, spares_either, rest_kept}
 use Rattle.store.proofs.ExecutedSets.{nothing_new, adopted_is}
 use Rattle.store.proofs.store.Store.adopt.Goals as goal
 
@@ -27,9 +27,6 @@ returns-in-Ok-replace-clause-adopts g c clean content was =
       executed = c.in-Ok.ensures.ok ∙ ap (λ all. set.union all c.args.gtids.now) was.executed;
       rest = subst (IsAtRest (state g.S.Store c.replace.new.conn) names) is (c.in-Ok-replace.ensures.replaces clean names content was.rest was.executed).0;
     }
-
-pub returns-in-Ok-replace-clause-schema : goal.returns-in-Ok-replace-clause-schema
-returns-in-Ok-replace-clause-schema g c clean content was whole = (c.in-Ok-replace.ensures.replaces clean c.args.self.now.following content was.rest was.executed).1
 
 pub returns-in-Ok-replace-clause-crash : goal.returns-in-Ok-replace-clause-crash
 returns-in-Ok-replace-clause-crash g c clean content was trees left =
@@ -60,29 +57,35 @@ returns-in-Err-replace-clause-crash g c clean content was trees left =
       | inr may ↦ inr (subst (λ after. AreOf c.args.self.now.conn.schema names after trees) is may.0)
     ]
 
-pub returns-then-is_subset-clause-crash_beside : goal.returns-then-is_subset-clause-crash_beside
-returns-then-is_subset-clause-crash_beside g c clean content was trees left = spares g.S.Store c.args.self.now.following content (λ h db is_open may. g.met.S.Store.settled h.store db is_open may) c.args.self.now.conn trees was.rest left
+pub returns-then-is_subset-clause-rest : goal.returns-then-is_subset-clause-rest
+returns-then-is_subset-clause-rest g c = rest_kept g.S.Store (λ h db is_open may. g.met.S.Store.settled h.store db is_open may) c.args.self.now _ _ refl refl
 
-pub returns-in-Err-clause-beside : goal.returns-in-Err-clause-beside
-returns-in-Err-clause-beside g c clean content was is_open = beside_same (state g.S.Store c.args.self.now.conn).now
+pub returns-in-Err-clause-rest : goal.returns-in-Err-clause-rest
+returns-in-Err-clause-rest g c = rest_kept g.S.Store (λ h db is_open may. g.met.S.Store.settled h.store db is_open may) c.args.self.now _ _ refl refl
 
-pub returns-in-Err-clause-crash_beside : goal.returns-in-Err-clause-crash_beside
-returns-in-Err-clause-crash_beside g c clean content was trees left = spares g.S.Store c.args.self.now.following content (λ h db is_open may. g.met.S.Store.settled h.store db is_open may) c.args.self.now.conn trees was.rest left
+pub returns-in-Ok-replace-clause-rest : goal.returns-in-Ok-replace-clause-rest
+returns-in-Ok-replace-clause-rest g c =
+    let names = c.args.self.now.following in
+    record {
+      following = refl;
+      clean = search rules;
+      schema = λ clean content was whole. (c.in-Ok-replace.ensures.replaces clean names content was.rest was.executed).1;
+      beside = λ clean content was is_open. (c.in-Ok-replace.ensures.replaces clean names content was.rest was.executed).2;
+      crash_beside = λ clean content was trees left.
+          spares_either g.S.Store names content (λ h db is_open may. g.met.S.Store.settled h.store db is_open may) c.args.self.now.conn trees was.rest ((c.in-Ok-replace.ensures.crash names content was.rest was.executed).crash clean trees left);
+      unchanged = search rules;
+    }
 
-pub returns-in-Ok-replace-clause-beside : goal.returns-in-Ok-replace-clause-beside
-returns-in-Ok-replace-clause-beside g c clean content was is_open = (c.in-Ok-replace.ensures.replaces clean c.args.self.now.following content was.rest was.executed).2
-
-pub returns-in-Ok-replace-clause-crash_beside : goal.returns-in-Ok-replace-clause-crash_beside
-returns-in-Ok-replace-clause-crash_beside g c clean content was trees left =
-    spares_either g.S.Store c.args.self.now.following content (λ h db is_open may. g.met.S.Store.settled h.store db is_open may) c.args.self.now.conn trees was.rest ((c.in-Ok-replace.ensures.crash c.args.self.now.following content was.rest was.executed).crash clean trees left)
-
-pub returns-in-Err-replace-clause-beside : goal.returns-in-Err-replace-clause-beside
-returns-in-Err-replace-clause-beside g c clean content was is_open =
-    beside_unchanged (state g.S.Store c.args.self.now.conn).now (state g.S.Store c.replace.new.conn).now (c.in-Err-replace.ensures.replaces clean c.args.self.now.following content was.rest was.executed is_open).0
-
-pub returns-in-Err-replace-clause-crash_beside : goal.returns-in-Err-replace-clause-crash_beside
-returns-in-Err-replace-clause-crash_beside g c clean content was trees left =
-    spares_either g.S.Store c.args.self.now.following content (λ h db is_open may. g.met.S.Store.settled h.store db is_open may) c.args.self.now.conn trees was.rest ((c.in-Err-replace.ensures.crash c.args.self.now.following content was.rest was.executed).crash clean trees left)
-
-pub returns-in-Err-replace-clause-unchanged : goal.returns-in-Err-replace-clause-unchanged
-returns-in-Err-replace-clause-unchanged g c clean content was failed is_open = (c.in-Err-replace.ensures.replaces clean c.args.self.now.following content was.rest was.executed is_open).0
+pub returns-in-Err-replace-clause-rest : goal.returns-in-Err-replace-clause-rest
+returns-in-Err-replace-clause-rest g c =
+    let names = c.args.self.now.following in
+    record {
+      following = refl;
+      clean = search rules;
+      schema = search rules;
+      beside = λ clean content was is_open.
+          beside_unchanged (state g.S.Store c.args.self.now.conn).now (state g.S.Store c.replace.new.conn).now (c.in-Err-replace.ensures.replaces clean names content was.rest was.executed is_open).0;
+      crash_beside = λ clean content was trees left.
+          spares_either g.S.Store names content (λ h db is_open may. g.met.S.Store.settled h.store db is_open may) c.args.self.now.conn trees was.rest ((c.in-Err-replace.ensures.crash names content was.rest was.executed).crash clean trees left);
+      unchanged = λ clean content was failed is_open. (c.in-Err-replace.ensures.replaces clean names content was.rest was.executed is_open).0;
+    }

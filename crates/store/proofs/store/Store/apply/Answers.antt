@@ -1,8 +1,8 @@
-use Rattle.store.proofs.Names.{◌≡◌, true, false, ap, refl, sym, subst, ◌∙◌, delivery_value, is_executed}
+use Rattle.store.proofs.Names.{◌≡◌, true, false, ap, refl, sym, subst, ◌∙◌, rules, delivery_value, is_executed, Content}
 use Rattle.std.specs.FinSet as set
 use Rattle.gtid.specs.Identifier.{id}
-use Rattle.store.proofs.ExecutedInMemory.{applied, applied_shut, left_whole, same_schema, same_store, lies_beside, stays_now, spares, spares_moved}
-use Rattle.store.proofs.BesideStays.{beside_unchanged}
+use Rattle.store.proofs.ExecutedInMemory.{applied, applied_shut, left_whole, same_schema, same_store, lies_beside, stays_now, spares_moved, rest_kept}
+use Rattle.store.specs.Store.{Holds}
 use Rattle.store.proofs.store.Store.apply.Goals as goal
 
 pub returns-clause-applies : goal.returns-clause-applies
@@ -19,34 +19,6 @@ returns-clause-crash g c clean content was trees left =
     let same = ap (λ p. p.0) c.in-New.ensures.0 ∙ c.replace-executed.ensures.value ∙ was.executed in
     left_whole g.S.Store c.args.self.now.following content (λ h db is_open may. g.met.S.Store.settled h.store db is_open may) d c.args.self.now.conn c.apply_new-executed.new.conn c.apply_new-executed.result.1 c.apply_new-executed.result.0 trees was.rest
     (c.apply_new-executed.ensures.comes clean content was.rest same) ((c.apply_new-executed.ensures.crash content was.rest same).crash clean trees left) left
-
-pub returns-clause-schema : goal.returns-clause-schema
-returns-clause-schema g c clean content was whole =
-    let same = ap (λ p. p.0) c.in-New.ensures.0 ∙ c.replace-executed.ensures.value ∙ was.executed in
-    same_schema g.S.Store content (delivery_value c.args.delivery.now) c.args.self.now (record c.args.self.now { conn = c.apply_new-executed.new.conn; executed = c.apply_new-executed.result.0; broken = c.breaks-self.result; autocommit = c.self-2-1.given.0 }) c.apply_new-executed.result.1 whole c.breaks-self.ensures
-    (c.apply_new-executed.ensures.comes clean content was.rest same)
-
-pub returns-clause-beside : goal.returns-clause-beside
-returns-clause-beside g c clean content was is_open =
-    let same = ap (λ p. p.0) c.in-New.ensures.0 ∙ c.replace-executed.ensures.value ∙ was.executed in
-    lies_beside g.S.Store content (delivery_value c.args.delivery.now) c.args.self.now (record c.args.self.now { conn = c.apply_new-executed.new.conn; executed = c.apply_new-executed.result.0; broken = c.breaks-self.result; autocommit = c.self-2-1.given.0 }) c.apply_new-executed.result.1 is_open
-    (c.apply_new-executed.ensures.comes clean content was.rest same)
-
-pub returns-clause-unchanged : goal.returns-clause-unchanged
-returns-clause-unchanged g c clean content was failed is_open =
-    let same = ap (λ p. p.0) c.in-New.ensures.0 ∙ c.replace-executed.ensures.value ∙ was.executed in
-    stays_now g.S.Store content (delivery_value c.args.delivery.now) c.args.self.now (record c.args.self.now { conn = c.apply_new-executed.new.conn; executed = c.apply_new-executed.result.0; broken = c.breaks-self.result; autocommit = c.self-2-1.given.0 }) c.apply_new-executed.result.1 failed is_open
-    (c.apply_new-executed.ensures.comes clean content was.rest same)
-
-pub returns-clause-crash_beside : goal.returns-clause-crash_beside
-returns-clause-crash_beside g c clean content was trees left =
-    let same = ap (λ p. p.0) c.in-New.ensures.0 ∙ c.replace-executed.ensures.value ∙ was.executed in
-    spares_moved g.S.Store c.args.self.now.following content (λ h db is_open may. g.met.S.Store.settled h.store db is_open may) (delivery_value c.args.delivery.now) c.args.self.now.conn c.apply_new-executed.result.1 trees was.rest
-    ((c.apply_new-executed.ensures.crash content was.rest same).crash clean trees left)
-
-pub returns-in-Known-clause-crash_beside : goal.returns-in-Known-clause-crash_beside
-returns-in-Known-clause-crash_beside g c clean content was trees left =
-    spares g.S.Store c.args.self.now.following content (λ h db is_open may. g.met.S.Store.settled h.store db is_open may) c.args.self.now.conn trees was.rest left
 
 pub returns-clause-shut : goal.returns-clause-shut
 returns-clause-shut g c clean content was shut =
@@ -71,12 +43,26 @@ returns-in-Known-clause-shut g c clean content was shut = (
   same_store g.S.Store c.args.self.now c.in-Known.executed c.self-1.given.0 (c.in-Known.ensures.0 ∙ c.replace-executed.ensures.value),
 )
 
-pub returns-in-Known-clause-beside : goal.returns-in-Known-clause-beside
-returns-in-Known-clause-beside g c clean content was is_open = beside_unchanged _ _ refl
+pub returns-clause-rest : goal.returns-clause-rest
+returns-clause-rest g c =
+    let d = delivery_value c.args.delivery.now in
+    let old = c.args.self.now in
+    let new = record c.args.self.now { conn = c.apply_new-executed.new.conn; executed = c.apply_new-executed.result.0; broken = c.breaks-self.result; autocommit = c.self-2-1.given.0 } in
+    let answer = c.apply_new-executed.result.1 in
+    let same : (content : Content) → Holds g.S.Store old content → c.in-New.reserved.0 ≡ content.executed = λ content was. ap (λ p. p.0) c.in-New.ensures.0 ∙ c.replace-executed.ensures.value ∙ was.executed in
+    record {
+      following = refl;
+      clean = search rules;
+      schema = λ clean content was whole. same_schema g.S.Store content d old new answer whole c.breaks-self.ensures (c.apply_new-executed.ensures.comes clean content was.rest (same content was));
+      beside = λ clean content was is_open. lies_beside g.S.Store content d old new answer is_open (c.apply_new-executed.ensures.comes clean content was.rest (same content was));
+      crash_beside = λ clean content was trees left.
+          spares_moved g.S.Store old.following content (λ h db is_open may. g.met.S.Store.settled h.store db is_open may) d old.conn answer trees was.rest
+          ((c.apply_new-executed.ensures.crash content was.rest (same content was)).crash clean trees left);
+      unchanged = λ clean content was failed is_open. stays_now g.S.Store content d old new answer failed is_open (c.apply_new-executed.ensures.comes clean content was.rest (same content was));
+    }
 
-pub returns-in-NoRoom-clause-beside : goal.returns-in-NoRoom-clause-beside
-returns-in-NoRoom-clause-beside g c clean content was is_open = beside_unchanged _ _ refl
+pub returns-in-Known-clause-rest : goal.returns-in-Known-clause-rest
+returns-in-Known-clause-rest g c = rest_kept g.S.Store (λ h db is_open may. g.met.S.Store.settled h.store db is_open may) c.args.self.now _ _ refl refl
 
-pub returns-in-NoRoom-clause-crash_beside : goal.returns-in-NoRoom-clause-crash_beside
-returns-in-NoRoom-clause-crash_beside g c clean content was trees left =
-    spares g.S.Store c.args.self.now.following content (λ h db is_open may. g.met.S.Store.settled h.store db is_open may) c.args.self.now.conn trees was.rest left
+pub returns-in-NoRoom-clause-rest : goal.returns-in-NoRoom-clause-rest
+returns-in-NoRoom-clause-rest g c = rest_kept g.S.Store (λ h db is_open may. g.met.S.Store.settled h.store db is_open may) c.args.self.now _ _ refl refl

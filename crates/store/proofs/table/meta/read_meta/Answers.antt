@@ -1,6 +1,6 @@
 use Rattle.store.proofs.Names.{rules, meta_tree, meta_rows, all_meta_text}
 use Rattle.sqlite.specs.Held.{state}
-use Rattle.binlog.proofs.Prefixes.{on_ok}
+use Rattle.store.proofs.Done.{on_ok}
 use Rattle.store.proofs.Wholes.{meta_asks}
 use Rattle.store.proofs.Steps.{first_step, clean_before}
 use Rattle.store.proofs.TableQueries.{meta_table}

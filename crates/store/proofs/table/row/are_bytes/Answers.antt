@@ -1,5 +1,5 @@
 use Rattle.std.proofs.Common.{arith}
-use Rattle.gtid.proofs.AsciiText.{all_bytes}
+use Rattle.gtid.proofs.GroupText.{all_bytes}
 use Rattle.store.proofs.table.row.are_bytes.Goals as goal
 
 pub returns : goal.returns

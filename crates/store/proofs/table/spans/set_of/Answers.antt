@@ -1,6 +1,6 @@
 use Rattle.std.proofs.Common.{sym, ◌∙◌}
 use Rattle.gtid.proofs.SpanGroups.{lawful_sorted}
-use Rattle.binlog.proofs.Prefixes.{on_ok}
+use Rattle.store.proofs.Done.{on_ok}
 use Rattle.store.proofs.SpanRows.{set_damaged, set_apart, set_covers}
 use Rattle.store.proofs.table.spans.set_of.Goals as goal
 

@@ -1,83 +1,16 @@
--- Text that grows by ASCII.
-use Rattle.gtid.proofs.Names.{◌≡◌, ℕ, List, [], ◌∷◌, ◌++◌, refl, ap, sym, ◌∙◌, append_assoc, ◌<◌, ◌≤◌, ◌+◌, zero, suc, length, map, flat_map, get_or, take, add-one, codes, subst, arith, ◌-◌, ◌^◌, true, nat_le, nat_lt, inl, inr, length-append, join_by, AllByRecursion, bytes_eq, false≢true, or_cases, and_parts, nat_tests, bytes_eq-Decides, Id, Ids, IsSource, IsGtid, is_within, has, AreLeast, Ascend, is_of, is_listed, spans_of, block_text, Interval, Group}
-use Rattle.std.proofs.Common.{drop}
-use Rattle.std.specs.Str.{IsAscii}
-use Rattle.std.proofs.lemmas.List.{append-nil, drop_more}
-use Rattle.std.proofs.lemmas.Str.{IsAscii-append}
-use Rattle.std.proofs.lemmas.Str.Ascii.{IsAscii-nil}
+-- The text of the set that groups stand for.
+use Rattle.gtid.proofs.Names.{◌≡◌, ℕ, List, [], ◌∷◌, ◌++◌, refl, ap, sym, ◌∙◌, ◌<◌, ◌≤◌, ◌+◌, zero, suc, length, get_or, take, add-one, codes, subst, arith, ◌-◌, ◌^◌, true, nat_le, nat_lt, inl, inr, join_by, AllByRecursion, bytes_eq, false≢true, or_cases, and_parts, nat_tests, bytes_eq-Decides, Id, Ids, IsSource, IsGtid, is_within, has, AreLeast, Ascend, is_of, is_listed, spans_of, block_text, Interval, Group}
 use Rattle.gtid.specs.Identifier.{AreGtids}
 use Rattle.gtid.specs.Group.{sources, ids_of}
 use Rattle.gtid.specs.Text.{AppendsText, LacksTextRoom}
-use Rattle.gtid.specs.Blocks.{blocks, GrowsByAscii}
+use Rattle.gtid.specs.Blocks.{blocks}
 use Rattle.gtid.proofs.LeastList.{least_list_of}
 use Rattle.gtid.proofs.SpansBySource.{grouped_groups}
 use Rattle.gtid.proofs.Sets.{contains_listed}
 
-pub grows_none : (old : List ℕ) → GrowsByAscii old old
-grows_none old = record { more = []; grown = sym (append-nil old); ascii = IsAscii-nil }
-
-pub grows_same : (old new : List ℕ) → new ≡ old → GrowsByAscii old new
-grows_same old new is = record { more = []; grown = is ∙ sym (append-nil old); ascii = IsAscii-nil }
-
-pub grows_by : (old now more new : List ℕ) → GrowsByAscii old now → new ≡ now ++ more → IsAscii more → GrowsByAscii old new
-grows_by old now more new before is ascii = record {
-  more = before.more ++ more;
-  grown = is ∙ ap (λ bs. bs ++ more) before.grown ∙ append_assoc old before.more more;
-  ascii = IsAscii-append before.more more before.ascii ascii;
-}
-
-pub grows_all : (old now new : List ℕ) → GrowsByAscii old now → GrowsByAscii now new → GrowsByAscii old new
-grows_all old now new before after = grows_by old now after.more new before after.grown after.ascii
-
-pub one_ascii : (b : ℕ) → b < 128 → IsAscii (b ∷ [])
-one_ascii b small zero = small
-one_ascii b small (suc i) = omega arith
-
-pub colon_ascii : IsAscii (58 ∷ [])
-colon_ascii = one_ascii 58 (omega arith)
-
-pub hyphen_ascii : IsAscii (45 ∷ [])
-hyphen_ascii = one_ascii 45 (omega arith)
-
-pub comma_ascii : IsAscii (44 ∷ [])
-comma_ascii = one_ascii 44 (omega arith)
-
 pub all_bytes : (bs : List ℕ) → ((i : ℕ) → get_or bs i 0 < 256) → AllByRecursion (λ b. b < 256) bs
 all_bytes [] fits = tt
 all_bytes (b ∷ bs) fits = (fits 0, all_bytes bs (λ i. fits (suc i)))
-
--- What is printed, with what is left to print of the items, is all.
-pub record Prints {X Y : Type 0} (text : Y → List ℕ) (of : X → Y) (items : List X) (at : ℕ) (old out all : List ℕ) : Type 0 where
-  pub rest : out ++ flat_map text (map of (drop at items)) ≡ old ++ all
-  pub grows : GrowsByAscii old out
-
--- one item more
-pub prints_more : {X Y : Type 0} {text : Y → List ℕ} {of : X → Y} {items : List X} {old out all : List ℕ} (at : ℕ) (x : X) (now : List ℕ) → Prints text of items at old out all → at < length items → x ≡ get_or items at x →
-    now ≡ out ++ text (of x) → GrowsByAscii out now → Prints text of items (at + 1) old now all
-prints_more {text = text} {of} {items} {old} {out} {all} at x now before short is printed grows = record {
-  rest =
-      ap (λ bs. bs ++ flat_map text (map of (drop (at + 1) items))) printed
-      ∙ append_assoc out (text (of x)) (flat_map text (map of (drop (at + 1) items)))
-      ∙ ap (λ xs. out ++ flat_map text (map of xs)) (sym (drop_more items at x short ∙ ap (λ y. y ∷ drop (at + 1) items) (sym is)))
-      ∙ before.rest;
-  grows = grows_all old out now before.grows grows;
-}
-
--- what is printed, and the next item, are no longer than all
-pub prints_fit : {X Y : Type 0} {text : Y → List ℕ} {of : X → Y} {items : List X} {old out all : List ℕ} (at : ℕ) (x : X) → Prints text of items at old out all → at < length items → x ≡ get_or items at x →
-    length out + length (text (of x)) ≤ length old + length all
-prints_fit {text = text} {of} {items} {old} {out} {all} at x before short is =
-    let left = flat_map text (map of (drop (at + 1) items)) in
-    let e : out ++ (text (of x) ++ left) ≡ old ++ all = ap (λ xs. out ++ flat_map text (map of xs)) (sym (drop_more items at x short ∙ ap (λ y. y ∷ drop (at + 1) items) (sym is))) ∙ before.rest in
-    omega (arith, ap length e, length-append out (text (of x) ++ left), length-append (text (of x)) left, length-append old all)
-
--- nothing of the items yet
-pub prints_none : {X Y : Type 0} (text : Y → List ℕ) (of : X → Y) (items : List X) (old front out all : List ℕ) → out ≡ old ++ front → GrowsByAscii old out → all ≡ front ++ flat_map text (map of items) →
-    Prints text of items 0 old out all
-prints_none text of items old front out all is grows all_is = record {
-  rest = ap (λ bs. bs ++ flat_map text (map of items)) is ∙ append_assoc old front (flat_map text (map of items)) ∙ ap (λ bs. old ++ bs) (sym all_is);
-  grows = grows;
-}
 
 -- one item more of which it holds
 pub all_more : {X : Type 0} (P : X → Type 0) (items : List X) (at : ℕ) (x : X) → AllByRecursion P (take at items) → at < length items → x ≡ get_or items at x → P x → AllByRecursion P (take (at + 1) items)

@@ -1,8 +1,8 @@
 -- Vectors to which bytes are appended, part by part.
-use Rattle.std.proofs.Common.{◌≡◌, ℕ, ◌+◌, ◌≤◌, List, [], ◌++◌, length, Vec, vec_len, vec_capacity, Result, Ok, Err, OnOk, sym, ap, ◌∙◌, append_assoc, arith}
+use Rattle.std.proofs.Common.{◌≡◌, ℕ, ◌+◌, ◌-◌, ◌^◌, ◌≤◌, min, List, [], ◌++◌, length, Vec, vec_len, vec_capacity, sym, ap, ◌∙◌, append_assoc, arith}
 use Rattle.std.proofs.lemmas.List.{append-nil, length-append}
 use Rattle.std.specs.declared.alloc.Global.{Global}
-use Rattle.binlog.specs.Appending.{AppendsBytes}
+use Rattle.gtid.specs.Appending.{AppendsBytes}
 
 -- one part and then the next
 pub appends_then : {old next new : Vec ℕ Global} {a b : List ℕ} → AppendsBytes old next a → AppendsBytes next new b → AppendsBytes old new (a ++ b)
@@ -40,9 +40,15 @@ last_write {old} {now} {left} {all} w none = record {
   capacity = w.capacity;
 }
 
--- ---- A clause of success.
+-- ---- Lengths that are summed up to the highest number.
 
--- one that holds of any answer
-pub on_ok : {T E P : Type 0} (r : Result T E) → P → OnOk r P
-on_ok (Ok x) p = p
-on_ok (Err e) p = tt
+-- the sum so far and the length that is left
+pub record Sums (sum left all : ℕ) : Type 0 where
+  pub is : min (sum + left) (2 ^ 64 - 1) ≡ min all (2 ^ 64 - 1)
+  pub small : sum ≤ 2 ^ 64 - 1
+
+pub sum_next : {sum left all : ℕ} (part rest next total : ℕ) → Sums sum left all → left ≡ part + rest → next ≡ min part (2 ^ 64 - 1) → total ≡ min (sum + next) (2 ^ 64 - 1) → Sums total rest all
+sum_next part rest next total so_far first is more = record { is = omega (arith, so_far.is, so_far.small, first, is, more); small = omega (arith, more) }
+
+pub sum_all : {sum left all : ℕ} → Sums sum left all → left ≡ 0 → sum ≡ min all (2 ^ 64 - 1)
+sum_all so_far none = omega (arith, so_far.is, so_far.small, none)

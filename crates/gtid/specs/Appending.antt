@@ -1,4 +1,4 @@
--- Private: what a writer does to the vector that it is given, and lengths that are summed up.
+-- For writers: what one does to the vector that it is given (of a `String`: to its bytes), and lengths that are summed up.
 use Rattle.std.specs.Prelude.{◌≡◌, ℕ, ◌+◌, ◌-◌, ◌^◌, ◌≤◌, min, List, ◌++◌, length, Vec, vec_len, vec_capacity}
 use Rattle.std.specs.declared.alloc.Global.{Global}
 
