@@ -1,6 +1,6 @@
 //! Runs the command that the arguments name.
 
-ghost use Rattle.std.specs.Prelude.{◌≤◌, IfOk, IfSome};
+ghost use Rattle.std.specs.Prelude.{◌≡◌, ◌≤◌, IfOk, IfSome};
 
 pub mod clear;
 pub mod copy;
@@ -29,7 +29,7 @@ use crate::commands::sets::{adopt, gtids, missing};
 use crate::commands::show::{show, tables};
 use crate::commands::skip::skip;
 use crate::commands::verify::verify;
-use crate::report::failure::{DONE, Failure, MEMORY};
+use crate::report::failure::{DONE, Failure, MEMORY, write_failure};
 use clap::{ArgMatches, Command};
 use command_line::{
     escaped, grammar, input_again, no_command, parse_tables, word, write_completions, write_help,
@@ -61,10 +61,11 @@ pub fn command<S: AsStr, O: Write, E: Write>(
             if !matches!(failure, Failure::Output(_))
                 && let Err(cause) = out.flush()
             {
-                let _ = Failure::Output(cause).write(err);
+                write_failure(Err(Failure::Output(cause)), err);
             }
-            let _ = failure.write(err);
-            failure.status()
+            let status = failure.status();
+            write_failure(Err(failure), err);
+            status
         }
     }
 }
@@ -147,33 +148,47 @@ fn run_named<'a, W: Write, E: Write>(
 ) -> Result<Option<u8>, Failure<'a>>
     ensures { IfOk result (λ done. IfSome done (λ status. status ≤ MEMORY)) }
 {
-    let status = match name {
-        "packets" => list(rt, word(given, "FILE"), Lines::Packets, out)?,
-        "events" => list(rt, word(given, "FILE"), Lines::Events, out)?,
-        "minus" => minus(rt, given, out)?,
-        "replay" => replay(rt, given, out, err)?,
-        "follow" => follow(rt, given, out, err)?,
-        "select" => select(rt, given, out)?,
-        "load" => load(rt, given, out, err)?,
-        "clear" => clear(rt, given, out, err)?,
-        "show" | "tables" | "gtids" | "missing" => read(rt, name, given, out, err)?,
-        "adopt" => adopt(rt, given, out)?,
-        "skip" => skip(rt, given, out)?,
-        "copy" => copy(rt, given)?,
-        "export" => export(rt, given, err)?,
-        "verify" => verify(rt, given, out, err)?,
-        "completions" => {
-            write_completions(word(given, "SHELL"), out)?;
-            DONE
-        }
-        "columns" => {
-            let only = parse_tables(rt.alloc(), given.get_strs("only").unwrap_or(&[]))?;
-            write_query(&only, out)?;
-            DONE
-        }
+    let done = match name {
+        "packets" => list(rt, word(given, "FILE"), Lines::Packets, out),
+        "events" => list(rt, word(given, "FILE"), Lines::Events, out),
+        "minus" => minus(rt, given, out),
+        "replay" => replay(rt, given, out, err),
+        "follow" => follow(rt, given, out, err),
+        "select" => select(rt, given, out),
+        "load" => load(rt, given, out, err),
+        "clear" => clear(rt, given, out, err),
+        "show" | "tables" | "gtids" | "missing" => read(rt, name, given, out, err),
+        "adopt" => adopt(rt, given, out),
+        "skip" => skip(rt, given, out),
+        "copy" => copy(rt, given),
+        "export" => export(rt, given, err),
+        "verify" => verify(rt, given, out, err),
+        "completions" => completions(given, out),
+        "columns" => columns(rt, given, out),
         _ => return Ok(None),
     };
-    Ok(Some(status))
+    Ok(Some(done?))
+}
+
+/// Prints the completions of a shell.
+fn completions<'a, W: Write>(given: &ArgMatches<'a>, out: &mut W) -> Result<u8, Failure<'a>>
+    ensures { IfOk result (λ status. status ≡ DONE) }
+{
+    write_completions(word(given, "SHELL"), out)?;
+    Ok(DONE)
+}
+
+/// Prints the query that a description of the columns is made by.
+fn columns<'a, W: Write>(
+    rt: &HostRuntime,
+    given: &ArgMatches<'a>,
+    out: &mut W,
+) -> Result<u8, Failure<'a>>
+    ensures { IfOk result (λ status. status ≡ DONE) }
+{
+    let only = parse_tables(rt.alloc(), given.get_strs("only").unwrap_or(&[]))?;
+    write_query(&only, out)?;
+    Ok(DONE)
 }
 
 /// Runs the command of this name, which only reads a database, and reports if it has made that.
@@ -218,7 +233,7 @@ fn flushed<'a, O: Write, E: Write>(status: u8, out: &mut O, err: &mut E) -> Resu
         Ok(()) => Ok(status),
         Err(cause) if status == DONE => Err(Failure::Output(cause)),
         Err(cause) => {
-            let _ = Failure::Output(cause).write(err);
+            write_failure(Err(Failure::Output(cause)), err);
             Ok(status)
         }
     }

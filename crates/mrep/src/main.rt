@@ -40,7 +40,7 @@ fn use_stack(frames: u32, at: usize) -> u8 {
     room[at.wrapping_add(below as usize).wrapping_add(1) % FRAME]
 }
 
-/// Runs the command with buffered output. It fails only if an argument is not UTF-8 or memory runs out.
+/// Runs the command. It fails only if an argument is not UTF-8 or memory runs out.
 fn run(rt: &HostRuntime) -> io::Result<u8> {
     // They take the place of standard streams that are closed, so that no file or socket that is opened does, and nothing
     // that is meant for these is written to it. A write to them fails.
@@ -49,14 +49,19 @@ fn run(rt: &HostRuntime) -> io::Result<u8> {
         fs::open(rt, "/dev/null"),
         fs::open(rt, "/dev/null"),
     ];
+    let status = run_words(rt);
+    drop(held);
+    status
+}
+
+/// Runs the command that the arguments name, with buffered output.
+fn run_words(rt: &HostRuntime) -> io::Result<u8> {
     let words: Vec<String> = env::args(rt)?.collect(rt.alloc())?;
     if !has_room(rt, STACK) || use_stack(FRAMES, words.len()) > 1 {
         return Err(io::ErrorKind::OutOfMemory.into());
     }
     let mut out = BufWriter::new(rt.alloc(), rt.stdout())?;
-    let status = command(rt, words.as_slice(), &mut out, &mut rt.stderr());
-    drop(held);
-    Ok(status)
+    Ok(command(rt, words.as_slice(), &mut out, &mut rt.stderr()))
 }
 
 fn main(rt: HostRuntime) -> ExitCode {

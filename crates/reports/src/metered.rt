@@ -3,19 +3,18 @@
 use crate::pulse::Pulse;
 use std::io;
 use std::io::Read;
-use std::rc::Rc;
 
 /// A reader, and what is reported once bytes come. Nothing is specified about its bytes.
 #[derive(Drop)]
 pub struct Metered<'r, R> {
     rt: &'r HostRuntime,
     reader: R,
-    pulse: Rc<Pulse>,
+    pulse: &'r Pulse,
 }
 
 impl<'r, R: Read> Metered<'r, R> {
     /// A reader of which nothing was read, and what to report.
-    pub fn new(rt: &'r HostRuntime, reader: R, pulse: Rc<Pulse>) -> Metered<'r, R> {
+    pub fn new(rt: &'r HostRuntime, reader: R, pulse: &'r Pulse) -> Metered<'r, R> {
         Metered { rt, reader, pulse }
     }
 }

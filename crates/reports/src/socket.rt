@@ -9,19 +9,18 @@ use replica::Duplex;
 use std::io;
 use std::io::{ErrorKind, Read, Write};
 use std::net::TcpStream;
-use std::rc::Rc;
 
 /// A TCP connection, and what is reported once nothing has come for a second. Nothing is specified about its bytes.
 #[derive(Drop)]
 pub struct Socket<'r> {
     rt: &'r HostRuntime,
     stream: TcpStream,
-    pulse: Rc<Pulse>,
+    pulse: &'r Pulse,
 }
 
 impl<'r> Socket<'r> {
     /// A connection, and what to report.
-    pub fn new(rt: &'r HostRuntime, stream: TcpStream, pulse: Rc<Pulse>) -> Socket<'r> {
+    pub fn new(rt: &'r HostRuntime, stream: TcpStream, pulse: &'r Pulse) -> Socket<'r> {
         Socket { rt, stream, pulse }
     }
 

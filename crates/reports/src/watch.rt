@@ -11,7 +11,6 @@ use gtid::GtidSet;
 use replica::{Ended, Observer, Reason, Refusal};
 use std::io;
 use std::io::Write;
-use std::rc::Rc;
 use typed_rows::{
     DescribedTables, Feed, FeedEntry, Misfit, OUTPUT, RowError, Stamps, write_refused,
 };
@@ -53,7 +52,6 @@ pub struct Source<'a> {
 /// What is reported, where it is asked for.
 #[derive(Drop)]
 pub struct Reports {
-    pub pulse: Rc<Pulse>,
     pub feed: Option<Feed>,
     /// The tables whose rows have names and types in the feed and in messages.
     pub tables: Option<DescribedTables>,
@@ -67,7 +65,7 @@ pub struct Watch<'a, O, E> {
     source: Source<'a>,
     out: &'a mut O,
     err: &'a mut E,
-    pulse: Rc<Pulse>,
+    pulse: &'a Pulse,
     feed: Option<Feed>,
     /// The tables whose rows have names and types in the feed and in messages.
     tables: Option<DescribedTables>,
@@ -91,12 +89,12 @@ impl<'a, O: Write, E: Write> Watch<'a, O, E> {
     /// An observer that nothing has been reported to.
     pub fn new(
         source: Source<'a>,
+        pulse: &'a Pulse,
         reports: Reports,
         out: &'a mut O,
         err: &'a mut E,
     ) -> Watch<'a, O, E> {
         let Reports {
-            pulse,
             feed,
             tables,
             chosen,

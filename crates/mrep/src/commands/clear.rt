@@ -27,28 +27,12 @@ pub fn clear<'a, W: Write, E: Write>(
     let gtid = parse_gtid("--gtid", word(given, "gtid"))?;
     let (schema, name) = parse_table(rt.alloc(), word(given, "SCHEMA.TABLE"))?;
     let wanted = Wanted::of(given)?;
-    let reports = wanted.reports(rt, None, &[], err)?;
-    let goes_to_err = wanted.feeds_output();
-    let mut watch = Watch::new(wanted.source(rt, &[], 0), reports, out, err);
-    let done = match clear_in(rt, wanted.db, &schema, &name, gtid, &mut watch) {
-        Ok(done) => done,
-        Err(failure) => {
-            watch.discard(wanted.feed_name());
-            return Err(failure);
-        }
+    let table = Table {
+        schema: &schema,
+        name: &name,
     };
-    let stopped = wanted.stopped(watch.stop());
-    let ClearedFile { end, closed: files } = done;
-    let cleared = closed(wanted.db, files);
-    let rows = match rows_of(wanted.db, end, stopped) {
-        Ok(rows) => rows,
-        Err(failure) => {
-            write_failure(cleared, err);
-            return Err(failure);
-        }
-    };
-    cleared?;
-    if goes_to_err {
+    let rows = clear_reported(rt, &wanted, table, gtid, out, err)?;
+    if wanted.feeds_output() {
         print(rows, err)?;
     } else {
         print(rows, out)?;
@@ -56,17 +40,50 @@ pub fn clear<'a, W: Write, E: Write>(
     Ok(DONE)
 }
 
+/// A table, by its names.
+#[derive(Clone, Copy)]
+struct Table<'t> {
+    schema: &'t [u8],
+    name: &'t [u8],
+}
+
+/// Takes all rows of a table out of a database, with the reports that are wanted. Returns how many went; none where the GTID was
+/// executed.
+fn clear_reported<'a, W: Write, E: Write>(
+    rt: &HostRuntime,
+    wanted: &Wanted<'_, 'a>,
+    table: Table<'_>,
+    gtid: Gtid,
+    out: &mut W,
+    err: &mut E,
+) -> Result<Option<u64>, Failure<'a>> {
+    let (pulse, reports) = wanted.reports(rt, None, &[], err)?;
+    let mut watch = Watch::new(wanted.source(rt, &[], 0), &pulse, reports, out, err);
+    let done = clear_in(rt, wanted.db, table, gtid, &mut watch);
+    let (done, watch) = wanted.unless_failed(done, watch)?;
+    let stopped = wanted.stopped(watch.stop());
+    let ClearedFile { end, closed: files } = done;
+    let cleared = closed(wanted.db, files);
+    match rows_of(wanted.db, end, stopped) {
+        Ok(rows) => cleared.map(|()| rows),
+        Err(failure) => {
+            write_failure(cleared, err);
+            Err(failure)
+        }
+    }
+}
+
 /// Takes all rows of a table out of the database in a file, which is opened with its own filter.
 fn clear_in<'a, W: Observer>(
     rt: &HostRuntime,
     db: &'a str,
-    schema: &[u8],
-    table: &[u8],
+    table: Table<'_>,
     gtid: Gtid,
     observer: &mut W,
 ) -> Result<ClearedFile<File>, Failure<'a>> {
     let opening = opening(rt, db)?;
-    let done = clear_file(rt, db, Unknown, schema, table, gtid, observer);
+    let Table { schema, name } = table;
+    let done = clear_file(rt, db, Unknown, schema, name, gtid, observer);
     opened(rt, db, opening, done)
 }
 
@@ -76,22 +93,18 @@ fn rows_of<'a>(
     end: ClearEnd,
     stopped: Result<(), Failure<'a>>,
 ) -> Result<Option<u64>, Failure<'a>> {
-    match end {
-        ClearEnd::Cleared(rows) => {
-            stopped?;
-            Ok(Some(rows))
-        }
+    let rows = match end {
+        ClearEnd::Cleared(rows) => return stopped.map(|()| Some(rows)),
+        ClearEnd::Stopped(reason) => return stopped.and(Err(failure_of(db, reason))),
         ClearEnd::Repeat => Ok(None),
         ClearEnd::NotFollowed => Err(Failure::Unusable {
             name: db,
             why: "it was made for other tables than this one",
         }),
         ClearEnd::Failed(cause) => Err(Failure::Database { name: db, cause }),
-        ClearEnd::Stopped(reason) => {
-            stopped?;
-            Err(failure_of(db, reason))
-        }
-    }
+    };
+    drop(stopped);
+    rows
 }
 
 /// The failure of a transaction that was not applied.

@@ -54,18 +54,24 @@ pub fn make_file<'a>(
     target: Target<'a>,
     export: Option<Export>,
 ) -> Result<Vec<u8>, Failure<'a>> {
-    let Target { db, to, force } = target;
-    let from = over_file(db, Names::of(rt, db))?;
-    over_file(db, from.check(rt))?;
-    over_file(to, from.check_target(rt, to, force))?;
-    keep_one_name(rt, to)?;
+    let from = checked(rt, target)?;
     // What comes to have the name from now on is not replaced: it is not locked.
-    let replaces = force && is_there(rt, to).unwrap_or(false);
+    let replaces = target.force && is_there(rt, target.to).unwrap_or(false);
     if replaces {
         replace(rt, target, &from, export)
     } else {
         make_beside(rt, target, &from, false, export)
     }
+}
+
+/// The names of a database that can be copied to its target, as far as that is known before.
+fn checked<'a>(rt: &HostRuntime, target: Target<'a>) -> Result<Names, Failure<'a>> {
+    let Target { db, to, force } = target;
+    let from = over_file(db, Names::of(rt, db))?;
+    over_file(db, from.check(rt))?;
+    over_file(to, from.check_target(rt, to, force))?;
+    keep_one_name(rt, to)?;
+    Ok(from)
 }
 
 /// Makes a file of the name of one that is there, which no other process has open meanwhile.

@@ -9,6 +9,7 @@ use crate::commands::copy::{Target, fill, make_file};
 use crate::database::description::read_description;
 use crate::database::exporter::{Source, export_rows};
 use crate::report::failure::{DONE, Failure, over_file};
+use binlog::Follow;
 use clap::ArgMatches;
 use command_line::{parse_schema, parse_tables, word};
 use files::{FileFault, Names, Part, lead_to_one, make_part};
@@ -57,12 +58,33 @@ fn wanted<'a>(
         Some(word) => Some(parse_schema(alloc, word)?),
         None => None,
     };
+    described(rt, name, only, bare.as_deref())
+}
+
+/// What is exported of the description in the file of this name: these of its tables, those of one schema without its name.
+fn described<'a>(
+    rt: &HostRuntime,
+    name: &'a str,
+    only: Follow,
+    bare: Option<&[u8]>,
+) -> Result<Export, Failure<'a>> {
+    let tables = tables(rt, name, &only, bare)?;
+    Ok(Export {
+        tables,
+        chosen: Chosen::new(rt.alloc(), only)?,
+    })
+}
+
+/// The tables of the description in the file of this name, as far as they are asked for.
+fn tables<'a>(
+    rt: &HostRuntime,
+    name: &'a str,
+    only: &Follow,
+    bare: Option<&[u8]>,
+) -> Result<Tables, Failure<'a>> {
     let described = read_description(rt, name)?;
-    match Tables::new(alloc, described, &only, bare.as_deref()) {
-        Ok(tables) => Ok(Export {
-            tables,
-            chosen: Chosen::new(alloc, only)?,
-        }),
+    match Tables::new(rt.alloc(), described, only, bare) {
+        Ok(tables) => Ok(tables),
         Err(fault) => Err(Failure::Tables { name, fault }),
     }
 }

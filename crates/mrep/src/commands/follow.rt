@@ -13,13 +13,11 @@ use files::{others_may_read, read_password};
 use formats::Shown;
 use gtid::GtidSet;
 use replica::{Config, ConfigFault, Connect, Ended, FollowedFile, Observer, Until, follow_file};
-use reports::{Pulse, Socket, Watch};
+use reports::{Pulse, Reports, Socket, Watch};
 use sqlite_disk::Unknown;
-use std::alloc::AllocError;
 use std::io;
 use std::io::{ErrorKind, Write};
 use std::net::TcpStream;
-use std::rc::Rc;
 use wire::LARGEST_PAYLOAD;
 
 /// Follows a source into a database until the connection ends, prints how it ended, and returns the exit status. With a
@@ -37,17 +35,41 @@ pub fn follow<'a, W: Write, E: Write>(
 {
     let wanted = Wanted::of(given)?;
     let port = parse_number(word(given, "port"), 65_535)? as u16;
-    let until = wanted.until(rt.alloc())?;
     let following = Following::of(rt, given, &wanted)?;
-    let (name, password_file) = (word(given, "host"), word(given, "password-file"));
+    let password_file = word(given, "password-file");
     warn(rt, password_file, err);
-    let reports = wanted.reports(rt, None, &[password_file], err)?;
-    let host = Host::new(rt, name, port, &reports.pulse)?;
+    let (pulse, reports) = wanted.reports(rt, None, &[password_file], err)?;
+    let host = Host {
+        rt,
+        name: word(given, "host"),
+        port,
+        pulse: &pulse,
+    };
+    follow_host(host, &wanted, following, reports, out, err)
+}
+
+/// Follows the source at a host, and prints how the connection ended.
+fn follow_host<'a, W: Write, E: Write>(
+    host: Host<'_, 'a>,
+    wanted: &Wanted<'_, 'a>,
+    following: Following,
+    reports: Reports,
+    out: &mut W,
+    err: &mut E,
+) -> Result<u8, Failure<'a>>
+    ensures { IfOk result (λ status. status ≤ MEMORY) }
+{
+    let Host {
+        rt,
+        name,
+        port,
+        pulse,
+    } = host;
     let streams = [name];
-    let watch = Watch::new(wanted.source(rt, &streams, port), reports, out, err);
-    let (followed, watch) = follow_until(host, wanted.db, following, until, watch);
+    let watch = Watch::new(wanted.source(rt, &streams, port), pulse, reports, out, err);
+    let (followed, watch) = follow_until(host, wanted.db, following, watch);
     let (end, done) = match followed {
-        Ok(followed) => concluded(&wanted, followed, watch),
+        Ok(followed) => concluded(wanted, followed, watch),
         Err(failure) => {
             watch.discard(wanted.feed_name());
             return Err(failure);
@@ -71,14 +93,14 @@ fn concluded<'a, W: Write, E: Write>(
     let Followed {
         connection,
         closed,
-        waited,
+        is_out_of_memory,
     } = followed;
     match connection {
         Ok((end, failure)) => {
             let printed = watch.report(1, &end, failure);
             watch.note_missing();
-            let stopped = wanted.stopped(watch.stop()).and(waited);
-            (Ok(end), first_failure(printed, stopped, closed))
+            let stopped = wanted.stopped(watch.stop()).and(waited(is_out_of_memory));
+            (Ok(end), over_output(printed).and(stopped).and(closed))
         }
         Err(cause) => {
             watch.give_up();
@@ -87,16 +109,10 @@ fn concluded<'a, W: Write, E: Write>(
     }
 }
 
-/// The first failure of what was done at the end of a connection: its line, the feed, and the closing of the database.
-fn first_failure<'a>(
-    printed: io::Result<()>,
-    stopped: Result<(), Failure<'a>>,
-    closed: Result<(), Failure<'a>>,
-) -> Result<(), Failure<'a>> {
-    match printed {
-        Ok(()) => stopped.and(closed),
-        Err(cause) => Err(Failure::Output(cause)),
-    }
+/// What was done with the output.
+fn over_output<'a>(printed: io::Result<()>) -> Result<(), Failure<'a>> {
+    printed?;
+    Ok(())
 }
 
 /// Says on standard error if others may read the password file.
@@ -110,11 +126,12 @@ fn warn<E: Write>(rt: &HostRuntime, name: &str, err: &mut E) {
     }
 }
 
-/// What is followed: the tables whose rows are kept, and the settings.
+/// What is followed: the tables whose rows are kept, the settings, and the set that is waited for, if there is one.
 #[derive(Drop)]
 struct Following {
     only: Option<Follow>,
     config: Config,
+    until: Option<GtidSet>,
 }
 
 impl Following {
@@ -123,10 +140,15 @@ impl Following {
         given: &ArgMatches<'a>,
         wanted: &Wanted<'_, 'a>,
     ) -> Result<Following, Failure<'a>> {
+        let until = wanted.until(rt.alloc())?;
         let server_id = parse_number(word(given, "server-id"), u32::MAX)?;
         let only = wanted.filter(rt.alloc())?;
         let config = settings(rt, given, server_id)?;
-        Ok(Following { only, config })
+        Ok(Following {
+            only,
+            config,
+            until,
+        })
     }
 }
 
@@ -165,8 +187,8 @@ struct Followed<'a> {
     connection: io::Result<(Ended, Option<ErrorKind>)>,
     /// Whether the database was closed.
     closed: Result<(), Failure<'a>>,
-    /// Whether there was memory for what is waited for.
-    waited: Result<(), Failure<'a>>,
+    /// Whether memory ran out for what is waited for.
+    is_out_of_memory: bool,
 }
 
 /// The host of a name: an IPv6 address may stand in brackets.
@@ -181,32 +203,16 @@ fn unbracketed(name: &str) -> &str {
 }
 
 /// Where the source listens, and what the connection reports.
-#[derive(Drop)]
-struct Host<'r> {
+#[derive(Clone, Copy)]
+struct Host<'r, 'a> {
     rt: &'r HostRuntime,
-    name: &'r str,
+    name: &'a str,
     port: u16,
-    pulse: Rc<Pulse>,
-}
-
-impl<'r> Host<'r> {
-    fn new(
-        rt: &'r HostRuntime,
-        name: &'r str,
-        port: u16,
-        pulse: &Rc<Pulse>,
-    ) -> Result<Host<'r>, AllocError> {
-        Ok(Host {
-            rt,
-            name,
-            port,
-            pulse: pulse.clone()?,
-        })
-    }
+    pulse: &'r Pulse,
 }
 
 /// Nothing is specified of what a host gives.
-impl<'r> Connect for Host<'r> {
+impl<'r> Connect for Host<'r, '_> {
     type Stream = Socket<'r>;
 
     type Error = io::Error;
@@ -223,15 +229,15 @@ impl<'r> Connect for Host<'r> {
 
 /// Follows over a socket.
 fn follow_over<'a, W: Observer>(
-    host: Host<'_>,
+    host: Host<'_, '_>,
     db: &'a str,
-    following: Following,
+    only: Option<&Follow>,
+    config: Config,
     observer: &mut W,
 ) -> Result<Followed<'a>, Failure<'a>> {
     let rt = host.rt;
-    let Following { only, config } = following;
     let opening = opening(rt, db)?;
-    let done = follow_file(rt, db, Unknown, only.as_ref(), config, host, observer);
+    let done = follow_file(rt, db, Unknown, only, config, host, observer);
     let FollowedFile {
         connection,
         closed: files,
@@ -243,38 +249,30 @@ fn follow_over<'a, W: Observer>(
     Ok(Followed {
         connection,
         closed: closed(db, files),
-        waited: Ok(()),
+        is_out_of_memory: false,
     })
 }
 
 /// Follows over a socket, until all of a set is executed if there is one, and gives the observer back.
 fn follow_until<'a, W: Observer>(
-    host: Host<'_>,
+    host: Host<'_, '_>,
     db: &'a str,
     following: Following,
-    until: Option<GtidSet>,
     mut observer: W,
 ) -> (Result<Followed<'a>, Failure<'a>>, W) {
+    let Following {
+        only,
+        config,
+        until,
+    } = following;
     let Some(set) = until else {
-        let followed = follow_over(host, db, following, &mut observer);
+        let followed = follow_over(host, db, only.as_ref(), config, &mut observer);
         return (followed, observer);
     };
-    let alloc = host.rt.alloc();
-    let mut waiting = Until::new(alloc, set, observer);
-    let followed = match follow_over(host, db, following, &mut waiting) {
-        Ok(followed) => {
-            let Followed {
-                connection,
-                closed,
-                ..
-            } = followed;
-            Ok(Followed {
-                connection,
-                closed,
-                waited: waited(waiting.is_out_of_memory()),
-            })
-        }
-        Err(failure) => Err(failure),
-    };
+    let mut waiting = Until::new(host.rt.alloc(), set, observer);
+    let mut followed = follow_over(host, db, only.as_ref(), config, &mut waiting);
+    if let Ok(followed) = &mut followed {
+        followed.is_out_of_memory = waiting.is_out_of_memory();
+    }
     (followed, waiting.into_inner())
 }

@@ -34,56 +34,87 @@ pub fn load<'a, W: Write, E: Write>(
 {
     let wanted = Wanted::of(given)?;
     let file = CopyFile::of(rt, given)?;
-    let (summary, size) = file.summary(rt)?;
-    load_summary(rt, wanted, &file, &summary, size, out, err)?;
-    let printed = if wanted.feeds_output() {
-        summary.print(err)
-    } else {
-        summary.print(out)
-    };
-    printed?;
+    load_copy(rt, &wanted, &file, out, err)?;
     Ok(DONE)
 }
 
-/// Loads the copy that was read.
+/// Loads a copy, and prints its tables.
+fn load_copy<'a, W: Write, E: Write>(
+    rt: &HostRuntime,
+    wanted: &Wanted<'_, 'a>,
+    file: &CopyFile<'a>,
+    out: &mut W,
+    err: &mut E,
+) -> Result<(), Failure<'a>> {
+    let (summary, size) = file.summary(rt)?;
+    load_summary(rt, wanted, file, &summary, size, out, err)
+}
+
+/// Loads the copy that was read, and prints its tables.
 fn load_summary<'a, W: Write, E: Write>(
     rt: &HostRuntime,
-    wanted: Wanted<'_, 'a>,
+    wanted: &Wanted<'_, 'a>,
     file: &CopyFile<'a>,
     summary: &Summary,
     size: u64,
     out: &mut W,
     err: &mut E,
 ) -> Result<(), Failure<'a>> {
-    let name = file.name;
-    let reports = wanted.reports(rt, Some(size), &[name], err)?;
-    let pulse = reports.pulse.clone()?;
-    let rows = file.rows(rt, summary, reports.pulse.clone()?)?;
-    let mut watch = Watch::new(wanted.source(rt, &[], 0), reports, out, err);
-    let done = match load_into(rt, wanted.db, summary.copy(), rows, &mut watch) {
-        Ok(done) => done,
-        Err(failure) => {
-            watch.discard(wanted.feed_name());
-            return Err(failure);
-        }
-    };
+    load_rows(rt, wanted, file, summary, size, out, err)?;
+    if wanted.feeds_output() {
+        summary.print(err)?;
+    } else {
+        summary.print(out)?;
+    }
+    Ok(())
+}
+
+/// Loads the copy that was read.
+fn load_rows<'a, W: Write, E: Write>(
+    rt: &HostRuntime,
+    wanted: &Wanted<'_, 'a>,
+    file: &CopyFile<'a>,
+    summary: &Summary,
+    size: u64,
+    out: &mut W,
+    err: &mut E,
+) -> Result<(), Failure<'a>> {
+    let (pulse, reports) = wanted.reports(rt, Some(size), &[file.name], err)?;
+    let rows = file.rows(rt, summary, &pulse)?;
+    let mut watch = Watch::new(wanted.source(rt, &[], 0), &pulse, reports, out, err);
+    let done = load_into(rt, wanted.db, summary.copy(), rows, &mut watch);
+    let (done, watch) = wanted.unless_failed(done, watch)?;
     let stopped = wanted.stopped(watch.stop());
+    report_end(rt, &pulse, size, done.applied, err);
+    concluded([wanted.db, file.name], done, stopped, err)
+}
+
+/// What a load comes to. The names are those of the database and of the copy. If it was not done, a failure of closing the database
+/// is only reported.
+fn concluded<'a, E: Write>(
+    names: [&'a str; 2],
+    done: LoadedFile<RowsFault, File>,
+    stopped: Result<(), Failure<'a>>,
+    err: &mut E,
+) -> Result<(), Failure<'a>> {
+    let [db, name] = names;
     let LoadedFile {
         applied,
         end,
         closed: files,
     } = done;
-    report_end(rt, &pulse, size, applied, err);
-    let files = closed(wanted.db, files);
-    let loaded = outcome(wanted.db, name, end).and(stopped);
-    if loaded.is_err() {
-        write_failure(files, err);
-        return loaded;
+    let files = closed(db, files);
+    match outcome(db, name, end).and(stopped) {
+        Ok(()) if applied == 0 => {
+            let _ = writeln!(err, "mrep: {}: none of its rows is new", Shown(name));
+            files
+        }
+        Ok(()) => files,
+        Err(failure) => {
+            write_failure(files, err);
+            Err(failure)
+        }
     }
-    if applied == 0 {
-        let _ = writeln!(err, "mrep: {}: none of its rows is new", Shown(name));
-    }
-    files
 }
 
 /// Loads a copy into the database in a file, which is opened with its own filter.

@@ -45,22 +45,7 @@ fn replay_streams<'a, W: Write, E: Write>(
 ) -> Result<u8, Failure<'a>>
     ensures { IfOk result (λ status. status ≤ MEMORY) }
 {
-    let until = wanted.until(rt.alloc())?;
-    let reading = Reading::of(rt, &wanted, names)?;
-    let reports = wanted.reports(rt, reading.total, names, err)?;
-    let mut streams = Vec::with_capacity(rt.alloc(), names.len())?;
-    streams.extend_from_slice(names)?;
-    let watch = Watch::new(wanted.source(rt, &streams, 0), reports, out, err);
-    let (done, mut watch) = reading.replay_until(rt, wanted.db, until, watch);
-    let (done, waited) = match done {
-        Ok(done) => done,
-        Err(failure) => {
-            watch.discard(wanted.feed_name());
-            return Err(failure);
-        }
-    };
-    watch.note_missing();
-    let stopped = wanted.stopped(watch.stop()).and(waited);
+    let (done, stopped) = replay_reported(rt, &wanted, names, out, err)?;
     let Replayed {
         ends,
         read,
@@ -77,7 +62,36 @@ fn replay_streams<'a, W: Write, E: Write>(
     status_after(counted(&ends, &done), done, err)
 }
 
-/// What is read: the tables whose rows are kept, the settings, and the streams.
+/// Reads the streams, with the reports that are wanted. Returns what that has done, and whether it was stopped for a report, or
+/// memory ran out for what is waited for.
+fn replay_reported<'a, W: Write, E: Write>(
+    rt: &HostRuntime,
+    wanted: &Wanted<'_, 'a>,
+    names: &[&'a str],
+    out: &mut W,
+    err: &mut E,
+) -> Result<(Replayed<File>, Result<(), Failure<'a>>), Failure<'a>> {
+    let reading = Reading::of(rt, wanted, names)?;
+    let (pulse, reports) = wanted.reports(rt, reading.total, names, err)?;
+    let watch = Watch::new(wanted.source(rt, names, 0), &pulse, reports, out, err);
+    replay_watched(rt, wanted, reading, watch)
+}
+
+/// Reads the streams with an observer.
+fn replay_watched<'a, W: Write, E: Write>(
+    rt: &HostRuntime,
+    wanted: &Wanted<'_, 'a>,
+    reading: Reading,
+    watch: Watch<'_, W, E>,
+) -> Result<(Replayed<File>, Result<(), Failure<'a>>), Failure<'a>> {
+    let (done, watch) = reading.replay_until(rt, wanted.db, watch);
+    let ((done, is_out_of_memory), mut watch) = wanted.unless_failed(done, watch)?;
+    watch.note_missing();
+    let stopped = wanted.stopped(watch.stop()).and(waited(is_out_of_memory));
+    Ok((done, stopped))
+}
+
+/// What is read: the tables whose rows are kept, the settings, the streams, and the set that is waited for, if there is one.
 #[derive(Drop)]
 struct Reading {
     only: Option<Follow>,
@@ -85,6 +99,7 @@ struct Reading {
     captures: Vec<Capture<Input>>,
     /// How many bytes the streams have, if that is known.
     total: Option<u64>,
+    until: Option<GtidSet>,
 }
 
 impl Reading {
@@ -94,6 +109,7 @@ impl Reading {
         wanted: &Wanted<'_, 'a>,
         names: &[&'a str],
     ) -> Result<Reading, Failure<'a>> {
+        let until = wanted.until(rt.alloc())?;
         let only = wanted.filter(rt.alloc())?;
         let (captures, total) = open_streams(rt, names)?;
         let Ok(config) = Config::new(rt.alloc(), b"", b"", SERVER_ID, false, LARGEST_PAYLOAD) else {
@@ -104,54 +120,56 @@ impl Reading {
             config,
             captures,
             total,
+            until,
         })
     }
 
-    /// Reads the streams into the database in a file.
-    fn replay<'a, W: Observer>(
-        self,
-        rt: &HostRuntime,
-        db: &'a str,
-        observer: &mut W,
-    ) -> Result<Replayed<File>, Failure<'a>> {
-        let Reading {
-            only,
-            config,
-            captures,
-            ..
-        } = self;
-        let opening = opening(rt, db)?;
-        let done = replica::replay(rt, db, Unknown, only.as_ref(), &config, captures, observer);
-        opened(rt, db, opening, done)
-    }
-
-    /// Reads the streams, until all of a set is executed if there is one, and gives the observer back. Says whether there was
-    /// memory for what is waited for.
+    /// Reads the streams, until all of a set is executed if there is one, and gives the observer back. Says whether memory ran
+    /// out for what is waited for.
     fn replay_until<'a, W: Observer>(
         self,
         rt: &HostRuntime,
         db: &'a str,
-        until: Option<GtidSet>,
         mut observer: W,
-    ) -> (
-        Result<(Replayed<File>, Result<(), Failure<'a>>), Failure<'a>>,
-        W,
-    ) {
+    ) -> (Result<(Replayed<File>, bool), Failure<'a>>, W) {
+        let Reading {
+            only,
+            config,
+            captures,
+            until,
+            ..
+        } = self;
         let Some(set) = until else {
-            let done = self.replay(rt, db, &mut observer);
-            let done = match done {
-                Ok(replayed) => Ok((replayed, Ok(()))),
-                Err(failure) => Err(failure),
-            };
-            return (done, observer);
+            let done = replay_in(rt, db, only.as_ref(), &config, captures, &mut observer);
+            return (with_wait(done, false), observer);
         };
         let mut waiting = Until::new(rt.alloc(), set, observer);
-        let done = match self.replay(rt, db, &mut waiting) {
-            Ok(replayed) => Ok((replayed, waited(waiting.is_out_of_memory()))),
-            Err(failure) => Err(failure),
-        };
+        let done = replay_in(rt, db, only.as_ref(), &config, captures, &mut waiting);
+        let done = with_wait(done, waiting.is_out_of_memory());
         (done, waiting.into_inner())
     }
+}
+
+/// What a replay has done, and whether memory ran out for what was waited for.
+fn with_wait<'a>(
+    done: Result<Replayed<File>, Failure<'a>>,
+    is_out_of_memory: bool,
+) -> Result<(Replayed<File>, bool), Failure<'a>> {
+    Ok((done?, is_out_of_memory))
+}
+
+/// Reads captured connections into the database in a file.
+fn replay_in<'a, W: Observer>(
+    rt: &HostRuntime,
+    db: &'a str,
+    only: Option<&Follow>,
+    config: &Config,
+    captures: Vec<Capture<Input>>,
+    observer: &mut W,
+) -> Result<Replayed<File>, Failure<'a>> {
+    let opening = opening(rt, db)?;
+    let done = replica::replay(rt, db, Unknown, only, config, captures, observer);
+    opened(rt, db, opening, done)
 }
 
 /// The failure of the reading of a stream, the one after this many.
@@ -182,21 +200,30 @@ fn open_streams<'a>(
 
 /// Opens a stream and reads its first byte. Whether it is a file, whose size is known.
 fn open_stream<'a>(rt: &HostRuntime, name: &'a str) -> Result<(Capture<Input>, bool), Failure<'a>> {
-    let mut reader = Input::open(rt, name).map_err(|cause| Failure::File { name, cause })?;
-    let size = match reader.size() {
-        Ok(size) => size,
-        Err(cause) => return Err(Failure::File { name, cause }),
-    };
-    let mut byte = [0u8; 1];
-    let first = match read_some(&mut reader, &mut byte) {
-        Ok(0) => None,
-        Ok(_) => Some(byte[0]),
-        Err(cause) => return Err(Failure::File { name, cause }),
-    };
+    match begin_stream(rt, name) {
+        Ok(opened) => Ok(opened),
+        Err(cause) => Err(Failure::File { name, cause }),
+    }
+}
+
+fn begin_stream(rt: &HostRuntime, name: &str) -> io::Result<(Capture<Input>, bool)> {
+    let mut reader = Input::open(rt, name)?;
+    let (size, first) = begin_reading(&mut reader)?;
     let capture = Capture {
         first,
         reader,
         size: size.unwrap_or(0),
     };
     Ok((capture, size.is_some()))
+}
+
+/// The size of a stream, if it is a file, and its first byte, if it has one.
+fn begin_reading(reader: &mut Input) -> io::Result<(Option<u64>, Option<u8>)> {
+    let size = reader.size()?;
+    let mut byte = [0u8; 1];
+    let first = match read_some(reader, &mut byte)? {
+        0 => None,
+        _ => Some(byte[0]),
+    };
+    Ok((size, first))
 }

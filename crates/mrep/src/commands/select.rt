@@ -4,10 +4,12 @@ ghost use Rattle.std.specs.Prelude.{◌≡◌, IfOk};
 
 use crate::database::description::read_tables;
 use crate::report::failure::{DONE, Failure};
+use binlog::Follow;
 use clap::ArgMatches;
 use command_line::{parse_tables, word};
+use std::alloc::Global;
 use std::io::Write;
-use typed_rows::write_select;
+use typed_rows::{DescribedTables, TablesFault, write_select};
 
 /// Prints the statements for the tables that are named, or for all that are described if none is.
 pub fn select<'a, W: Write>(
@@ -21,13 +23,29 @@ pub fn select<'a, W: Write>(
     let name = word(given, "columns");
     let only = parse_tables(alloc, given.get_strs("only").unwrap_or(&[]))?;
     let mut described = read_tables(rt, name)?;
-    if let Err(fault) = described.check(alloc, &only) {
+    print(alloc, name, &mut described, &only, out)
+}
+
+/// Prints the statements for these of the tables that a file describes, or for all if none is named.
+fn print<'a, W: Write>(
+    alloc: Global,
+    name: &'a str,
+    described: &mut DescribedTables,
+    only: &Follow,
+    out: &mut W,
+) -> Result<u8, Failure<'a>>
+    ensures { IfOk result (λ status. status ≡ DONE) }
+{
+    if let Err(fault) = keep(alloc, described, only) {
         return Err(Failure::Tables { name, fault });
     }
-    described.keep(&only, None);
-    if let Err(fault) = described.check_texts(alloc) {
-        return Err(Failure::Tables { name, fault });
-    }
-    write_select(&described, out)?;
+    write_select(described, out)?;
     Ok(DONE)
+}
+
+/// Keeps these of the described tables, or all if none is named. The client has to print them as they are.
+fn keep(alloc: Global, described: &mut DescribedTables, only: &Follow) -> Result<(), TablesFault> {
+    described.check(alloc, only)?;
+    described.keep(only, None);
+    described.check_texts(alloc)
 }

@@ -61,11 +61,11 @@ fn adopt_in<'a>(rt: &HostRuntime, db: &'a str, asked: &GtidSet) -> Result<GtidSe
     } = opened(rt, db, opening, done)?;
     let files = closed(db, files);
     match added {
-        Ok(added) => {
-            files?;
-            Ok(added)
+        Ok(added) => files.map(|()| added),
+        Err(cause) => {
+            drop(files);
+            Err(Failure::Database { name: db, cause })
         }
-        Err(cause) => Err(Failure::Database { name: db, cause }),
     }
 }
 

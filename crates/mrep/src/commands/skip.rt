@@ -18,7 +18,7 @@ use std::alloc::{AllocError, Global};
 use std::collections::VecDeque;
 use std::convert::Infallible;
 use std::io::Write;
-use typed_rows::SkipFeed;
+use typed_rows::{SkipError, SkipFeed};
 
 /// Records a GTID as executed, without changes, and prints whether it was new.
 pub fn skip<'a, W: Write>(
@@ -28,27 +28,39 @@ pub fn skip<'a, W: Write>(
 ) -> Result<u8, Failure<'a>>
     ensures { IfOk result (λ status. status ≤ MEMORY) }
 {
-    let (db, gtid) = (word(given, "db"), parse_gtid("G", word(given, "G"))?);
-    let feed = skip_feed(rt, given);
-    let mut watch = SkipWatch::new(rt.alloc(), feed);
-    let done = record(rt, db, gtid, &mut watch)?;
-    let ChangedFile {
-        applied,
-        end,
-        closed: files,
-    } = done;
-    let files = closed(db, files);
-    if let (Some(error), Some(feed)) = (watch.stop(), feed) {
-        return Err(of_skip(feed.name, error));
-    }
-    outcome(db, end)?;
-    files?;
-    if applied > 0 {
+    let gtid = parse_gtid("G", word(given, "G"))?;
+    if skip_in(rt, word(given, "db"), gtid, skip_feed(rt, given))? {
         writeln!(out, "Done")?;
     } else {
         writeln!(out, "Repeat")?;
     }
     Ok(DONE)
+}
+
+/// Records a GTID as executed in the database in a file, and says so in the change feed. Returns whether it was new.
+fn skip_in<'a>(
+    rt: &HostRuntime,
+    db: &'a str,
+    gtid: Gtid,
+    feed: Option<SkipFeed<'a>>,
+) -> Result<bool, Failure<'a>> {
+    let mut watch = SkipWatch::new(rt.alloc(), feed);
+    let ChangedFile {
+        applied,
+        end,
+        closed: files,
+    } = record(rt, db, gtid, &mut watch)?;
+    let fed = fed(feed, watch.stop());
+    fed.and(outcome(db, end)).and(closed(db, files))?;
+    Ok(applied > 0)
+}
+
+/// Whether the change feed was written, if there is one.
+fn fed<'a>(feed: Option<SkipFeed<'a>>, stop: Option<SkipError>) -> Result<(), Failure<'a>> {
+    match (feed, stop) {
+        (Some(feed), Some(error)) => Err(of_skip(feed.name, error)),
+        _ => Ok(()),
+    }
 }
 
 /// The change feed, if one is asked for.

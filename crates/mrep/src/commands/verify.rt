@@ -7,11 +7,13 @@ use crate::commands::show::show_rows;
 use crate::database::description::read_tables;
 use crate::database::printer::Selection;
 use crate::report::failure::{DONE, Failure, MEMORY, REFUSED};
+use binlog::Follow;
 use clap::ArgMatches;
 use command_line::{parse_tables, word};
 use files::{Input, has_bytes};
 use formats::{Chosen, Encoding, Format, compare};
 use std::io::{Read, Write};
+use typed_rows::DescribedTables;
 
 /// Prints the rows that one side lacks: `<` before those that the file has alone, `>` before those that the database has
 /// alone. The status is 0 if there are none, and 1 otherwise.
@@ -25,30 +27,54 @@ pub fn verify<'a, W: Write, E: Write>(
 {
     let (db, file) = (word(given, "db"), word(given, "ROWS"));
     let only = parse_tables(rt.alloc(), &[word(given, "SCHEMA.TABLE")])?;
-    let name = word(given, "columns");
-    let described = read_tables(rt, name)?;
-    if let Err(fault) = described.check(rt.alloc(), &only) {
-        return Err(Failure::Tables { name, fault });
-    }
+    let described = described(rt, word(given, "columns"), &only)?;
     let text = read_text(rt, file)?;
-    let selection = Selection {
-        chosen: Chosen::new(rt.alloc(), only)?,
-        format: Format::Tsv,
-        encoding: Encoding::Base64,
-    };
-    let mut printed = Vec::new(rt.alloc());
-    let is_missing = !has_bytes(rt, db);
-    let shown = show_rows(rt, db, selection, Some(&described), &mut printed, err);
-    if is_missing {
-        note_if_made(rt, db, out, err);
-    }
-    shown?;
+    let printed = printed(rt, db, only, described, out, err)?;
     let found = compare(rt.alloc(), &text, &printed, out)?;
     if found.are_none() {
         return Ok(DONE);
     }
     found.note(file, db, err);
     Ok(REFUSED)
+}
+
+/// The tables whose description a file has. These must be among them.
+fn described<'a>(
+    rt: &HostRuntime,
+    name: &'a str,
+    only: &Follow,
+) -> Result<DescribedTables, Failure<'a>> {
+    let described = read_tables(rt, name)?;
+    match described.check(rt.alloc(), only) {
+        Ok(()) => Ok(described),
+        Err(fault) => Err(Failure::Tables { name, fault }),
+    }
+}
+
+/// The rows of a table, as `mrep show` prints them.
+fn printed<'a, W: Write, E: Write>(
+    rt: &HostRuntime,
+    db: &'a str,
+    only: Follow,
+    described: DescribedTables,
+    out: &mut W,
+    err: &mut E,
+) -> Result<Vec<u8>, Failure<'a>> {
+    let selection = Selection {
+        chosen: Chosen::new(rt.alloc(), only)?,
+        format: Format::Tsv,
+        encoding: Encoding::Base64,
+    };
+    let mut rows = Vec::new(rt.alloc());
+    let is_missing = !has_bytes(rt, db);
+    let shown = show_rows(rt, db, selection, Some(&described), &mut rows, err);
+    if is_missing {
+        note_if_made(rt, db, out, err);
+    }
+    match shown {
+        Ok(()) => Ok(rows),
+        Err(failure) => Err(failure),
+    }
 }
 
 /// All of a file, or of standard input.

@@ -10,7 +10,6 @@ use first_copy::{CopiedRows, CopyFault, Summary, text_digest};
 use reports::{Metered, Pulse};
 use std::io;
 use std::io::{BufReader, Read};
-use std::rc::Rc;
 
 /// How many bytes are read at a time for the SHA-1.
 const PIECE: usize = 1 << 16;
@@ -85,7 +84,7 @@ impl<'a> CopyFile<'a> {
         &self,
         rt: &'r HostRuntime,
         summary: &Summary,
-        pulse: Rc<Pulse>,
+        pulse: &'r Pulse,
     ) -> Result<CopiedRows<BufReader<Metered<'r, Input>>>, Failure<'a>> {
         let (input, _) = self.open(rt)?;
         let (description, reader) = self.begin(rt, Metered::new(rt, input, pulse))?;
@@ -112,8 +111,8 @@ impl<'a> CopyFile<'a> {
         rt: &HostRuntime,
         input: R,
     ) -> Result<(Description, BufReader<R>), Failure<'a>> {
-        let description = read_description(rt, self.columns)?;
         let reader = self.used(BufReader::new(rt.alloc(), input))?;
+        let description = read_description(rt, self.columns)?;
         Ok((description, reader))
     }
 

@@ -1,14 +1,12 @@
 //! The rows of a database as those of tables of another.
 
-ghost use Rattle.std.specs.Prelude.{◌≡◌, false};
-
-use crate::database::open::{FileOf, listed, unopened_copy};
+use crate::database::open::{listed, unopened_copy};
 use crate::report::failure::Failure;
 use binlog::Follow;
 use formats::{Chosen, Shown};
 use gtid::GtidSet;
-use replica::{ListedFile, Lister, Unopened, list_file};
-use sqlite::{Alter, Connection, Error, ErrorCode, File};
+use replica::{Lister, list_file};
+use sqlite::{Alter, Connection, Error, ErrorCode};
 use sqlite_disk::Unknown;
 use std::alloc::Global;
 use std::io;
@@ -33,36 +31,45 @@ pub fn export_rows<'a>(
     part: &str,
     export: Export,
 ) -> Result<Vec<u8>, Failure<'a>> {
-    let Source { to, db, .. } = source;
     let Export { tables, chosen } = export;
-    let mut conn = match Connection::open(rt, part) {
-        Ok(conn) => conn,
-        Err(cause) => return Err(of_sqlite(to, cause)),
-    };
-    if !conn.is_autocommit() {
-        return Err(of_sqlite(to, Error::SqliteFailure(ErrorCode::TransactionState)));
-    }
-    let found = add_rows(rt, source, &tables, chosen, &mut conn)?;
-    match conn.close() {
-        Ok(()) => {}
-        Err(cause) => return Err(of_sqlite(to, cause)),
-    }
+    let found = fill(rt, source, part, &tables, chosen)?;
     let mut notes = Vec::new(rt.alloc());
-    found.note(&tables, db, &mut notes)?;
+    found.note(&tables, source.db, &mut notes)?;
     Ok(notes)
 }
 
-/// Makes tables and adds the rows of a copy of a database to them.
-fn add_rows<'a>(
+/// Makes tables of a new database in an empty file, with the rows of a copy of a database, and closes both.
+fn fill<'a>(
+    rt: &HostRuntime,
+    source: Source<'_, 'a>,
+    part: &str,
+    tables: &Tables,
+    chosen: Chosen,
+) -> Result<Found, Failure<'a>> {
+    let mut conn = match Connection::open(rt, part) {
+        Ok(conn) => conn,
+        Err(cause) => return Err(of_sqlite(source.to, cause)),
+    };
+    let found = add_rows(rt, source, tables, chosen, &mut conn);
+    match conn.close() {
+        Ok(()) => found,
+        Err(cause) => found.and(Err(of_sqlite(source.to, cause))),
+    }
+}
+
+/// Makes tables and adds the rows of a copy of a database to them. It is generic in the storage, which costs a check less than
+/// the one of a file.
+fn add_rows<'a, T: Alter>(
     rt: &HostRuntime,
     source: Source<'_, 'a>,
     tables: &Tables,
     chosen: Chosen,
-    conn: &mut Connection<FileOf>,
-) -> Result<Found, Failure<'a>>
-    requires { conn.old.in_transaction ≡ false }
-{
-    let Source { copy, to, db } = source;
+    conn: &mut Connection<T>,
+) -> Result<Found, Failure<'a>> {
+    let Source { to, db, .. } = source;
+    if !conn.is_autocommit() {
+        return Err(of_sqlite(to, Error::SqliteFailure(ErrorCode::TransactionState)));
+    }
     let rows = match ExportedRows::begin(rt.alloc(), tables, chosen, conn) {
         Ok(rows) => rows,
         Err(cause) => return Err(of_sqlite(to, cause)),
@@ -73,14 +80,7 @@ fn add_rows<'a>(
         is_empty: true,
         following: Follow::all(rt.alloc()),
     };
-    let done = match list_added(rt, copy, &mut added) {
-        Ok(done) => done,
-        Err(unopened) => return Err(unopened_copy(rt, copy, to, db, unopened)),
-    };
-    match listed(db, to, done)? {
-        Ok(()) => {}
-        Err(error) => return Err(of_tables([db, to], error)),
-    }
+    give_rows(rt, source, &mut added)?;
     let Added {
         rows,
         is_empty,
@@ -97,13 +97,21 @@ fn add_rows<'a>(
     }
 }
 
-/// Gives a database to what adds its rows to tables.
-fn list_added<T: Alter>(
+/// Gives a copy of a database to what adds its rows to tables.
+fn give_rows<'a, T: Alter>(
     rt: &HostRuntime,
-    copy: &str,
+    source: Source<'_, 'a>,
     added: &mut Added<'_, '_, T>,
-) -> Result<ListedFile<TableError, File>, Unopened<File>> {
-    list_file(rt, copy, Unknown, added)
+) -> Result<(), Failure<'a>> {
+    let Source { copy, to, db } = source;
+    let done = match list_file(rt, copy, Unknown, added) {
+        Ok(done) => done,
+        Err(unopened) => return Err(unopened_copy(rt, copy, to, db, unopened)),
+    };
+    match listed(db, to, done)? {
+        Ok(()) => Ok(()),
+        Err(error) => Err(of_tables([db, to], error)),
+    }
 }
 
 /// What a database was found to have.

@@ -10,7 +10,7 @@ use std::alloc::Global;
 use store::{Damage, ListError, StoreFault};
 
 /// A store in a database file.
-pub type FileOf = FileStore<File>;
+type FileOf = FileStore<File>;
 
 const JOURNAL: &str = "sqlite3 has left a journal beside it: open it once with sqlite3";
 
@@ -58,15 +58,16 @@ pub fn listed<'a, E: Drop>(
         listed,
         closed: files,
     } = done;
-    let files = closed(file, files);
-    match listed {
-        Ok(()) => match files {
-            Ok(()) => Ok(Ok(())),
-            Err(failure) => Err(failure),
-        },
+    let listed = match listed {
+        Ok(()) => Ok(()),
         Err(ListError::Store(cause)) => Err(Failure::Database { name: db, cause }),
-        Err(ListError::Visitor(error)) => Ok(Err(error)),
-    }
+        Err(ListError::Visitor(error)) => {
+            drop(closed(file, files));
+            return Ok(Err(error));
+        }
+    };
+    listed.and(closed(file, files))?;
+    Ok(Ok(()))
 }
 
 /// Opens and closes a copy of a database in a file, which copies its WAL file back into it. A failure names the file that is
@@ -150,8 +151,9 @@ fn leave(rt: &HostRuntime, wal: Option<String>, unopened: Unopened<File>) -> Cau
             Error::SqliteFailure(ErrorCode::OutOfMemory) => StoreFault::Memory,
             cause => StoreFault::Database(cause),
         }),
-        Unopened::Files(cause, _left) => {
+        Unopened::Files(cause, left) => {
             remove_unused(rt, wal);
+            drop(left);
             Cause::Fault(StoreFault::Database(cause))
         }
         Unopened::Database(fault, conn) => leave_database(rt, wal, fault, conn),
@@ -225,7 +227,10 @@ pub fn closed<'a>(
     files: Result<Files<File>, (Error, FileOf)>,
 ) -> Result<(), Failure<'a>> {
     match files {
-        Ok(_) => Ok(()),
+        Ok(files) => {
+            drop(files);
+            Ok(())
+        }
         Err((cause, left)) => {
             drop(left.close());
             Err(Failure::Database {

@@ -1,14 +1,12 @@
 //! The rows of a database, in one of the formats, and how many there are of each table.
 
-use crate::database::open::{list_in, listed, opened, opening};
+use crate::database::open::list_in;
 use crate::report::failure::{Failure, of_row};
 use binlog::Follow;
 use formats::{Chosen, Encoding, Format, Records, Tallies, write_object};
 use gtid::GtidSet;
-use replica::{ListedFile, Lister, Unopened, list_file};
+use replica::Lister;
 use reports::TextRows;
-use sqlite::File;
-use sqlite_disk::Unknown;
 use std::alloc::Global;
 use std::io;
 use std::io::Write;
@@ -29,17 +27,19 @@ pub struct Selection {
 pub fn print_rows<'a, W: Write>(
     rt: &HostRuntime,
     name: &'a str,
-    selection: Selection,
+    mut selection: Selection,
     described: Option<&DescribedTables>,
     out: &mut W,
 ) -> Result<Chosen, Failure<'a>> {
-    if let Some(tables) = described {
-        return print_typed(rt, name, tables, selection, out);
-    }
-    match selection.format {
-        Format::Csv => print_records(rt, name, selection, out),
-        Format::Json => print_objects(rt, name, selection, out),
-        _ => print_lines(rt, name, selection.chosen, out),
+    let printed = match (described, selection.format) {
+        (Some(tables), _) => print_typed(rt, name, tables, &mut selection, out),
+        (None, Format::Json) => print_objects(rt, name, &mut selection, out),
+        (None, Format::Csv) => return print_records(rt, name, selection, out),
+        (None, _) => return print_lines(rt, name, selection.chosen, out),
+    };
+    match printed {
+        Ok(()) => Ok(selection.chosen),
+        Err(failure) => Err(failure),
     }
 }
 
@@ -59,17 +59,12 @@ fn print_lines<'a, W: Write>(
 fn print_objects<'a, W: Write>(
     rt: &HostRuntime,
     name: &'a str,
-    selection: Selection,
+    selection: &mut Selection,
     out: &mut W,
-) -> Result<Chosen, Failure<'a>> {
-    let mut objects = Objects {
-        alloc: rt.alloc(),
-        selection,
-        out,
-    };
+) -> Result<(), Failure<'a>> {
+    let mut objects = Objects::new(rt.alloc(), selection, out);
     list_in(rt, name, &mut objects)??;
-    let Objects { selection, .. } = objects;
-    Ok(selection.chosen)
+    Ok(())
 }
 
 /// Prints a record for each row.
@@ -113,44 +108,43 @@ fn print_typed<'a, W: Write>(
     rt: &HostRuntime,
     name: &'a str,
     tables: &DescribedTables,
-    selection: Selection,
+    selection: &mut Selection,
     out: &mut W,
-) -> Result<Chosen, Failure<'a>> {
-    let layout = Layout {
-        format: selection.format,
-        encoding: selection.encoding,
-        is_one: selection.chosen.single().is_some(),
-    };
-    let mut all = Typed {
-        chosen: selection.chosen,
-        rows: TypedRows::new(rt.alloc(), tables, layout, out),
-    };
-    let opening = opening(rt, name)?;
-    let done = list_typed(rt, name, &mut all);
-    let Typed { chosen, .. } = all;
-    match listed(name, name, opened(rt, name, opening, done)?)? {
-        Ok(()) => Ok(chosen),
+) -> Result<(), Failure<'a>> {
+    let mut all = Typed::new(rt.alloc(), tables, selection, out);
+    match list_in(rt, name, &mut all)? {
+        Ok(()) => Ok(()),
         Err(error) => Err(of_row(name, error)),
     }
 }
 
-/// Gives a database to what prints rows whose columns are described.
-fn list_typed<W: Write>(
-    rt: &HostRuntime,
-    name: &str,
-    all: &mut Typed<'_, '_, W>,
-) -> Result<ListedFile<RowError, File>, Unopened<File>> {
-    list_file(rt, name, Unknown, all)
-}
-
 /// Writes the lines of rows whose columns are described.
 #[derive(Drop)]
-struct Typed<'d, 'o, W> {
-    chosen: Chosen,
-    rows: TypedRows<'d, 'o, W>,
+struct Typed<'o, W> {
+    chosen: &'o mut Chosen,
+    rows: TypedRows<'o, 'o, W>,
 }
 
-impl<W: Write> Visitor for Typed<'_, '_, W> {
+impl<'o, W: Write> Typed<'o, W> {
+    fn new(
+        alloc: Global,
+        tables: &'o DescribedTables,
+        selection: &'o mut Selection,
+        out: &'o mut W,
+    ) -> Typed<'o, W> {
+        let layout = Layout {
+            format: selection.format,
+            encoding: selection.encoding,
+            is_one: selection.chosen.single().is_some(),
+        };
+        Typed {
+            chosen: &mut selection.chosen,
+            rows: TypedRows::new(alloc, tables, layout, out),
+        }
+    }
+}
+
+impl<W: Write> Visitor for Typed<'_, W> {
     type Error = RowError;
 
     ghost row_gives = { λ _ _ _ _. Unit {0} };
@@ -164,7 +158,7 @@ impl<W: Write> Visitor for Typed<'_, '_, W> {
     }
 }
 
-impl<W: Write> Lister for Typed<'_, '_, W> {
+impl<W: Write> Lister for Typed<'_, W> {
     ghost begun = { λ _ _ _ _ _. Unit {0} };
 
     fn begin(&mut self, _executed: &GtidSet, _following: &Follow) -> Result<bool, RowError> {
@@ -177,8 +171,18 @@ impl<W: Write> Lister for Typed<'_, '_, W> {
 #[derive(Drop)]
 struct Objects<'o, W> {
     alloc: Global,
-    selection: Selection,
+    selection: &'o mut Selection,
     out: &'o mut W,
+}
+
+impl<'o, W: Write> Objects<'o, W> {
+    fn new(alloc: Global, selection: &'o mut Selection, out: &'o mut W) -> Objects<'o, W> {
+        Objects {
+            alloc,
+            selection,
+            out,
+        }
+    }
 }
 
 impl<W: Write> Visitor for Objects<'_, W> {

@@ -8,10 +8,9 @@ use command_line::{ArgumentFault, parse_encoding, parse_set, parse_tables, word}
 use formats::{Chosen, Format, Progress};
 use gtid::GtidSet;
 use metrics::{Status, StatusFile};
-use reports::{Pulse, Reports, Source, Stop};
+use reports::{Pulse, Reports, Source, Stop, Watch};
 use std::alloc::Global;
 use std::io::{IsTerminal, Write};
-use std::rc::Rc;
 use typed_rows::{DescribedTables, Feed, OUTPUT};
 
 /// The database and the tables whose rows are kept, and what is reported.
@@ -99,21 +98,50 @@ impl<'g, 'a> Wanted<'g, 'a> {
         total: Option<u64>,
         read: &[&str],
         err: &mut E,
-    ) -> Result<Reports, Failure<'a>> {
-        let chosen = self.chosen(rt.alloc())?;
-        let tables = match self.columns {
-            Some(name) => Some(read_tables(rt, name)?),
-            None => None,
-        };
+    ) -> Result<(Pulse, Reports), Failure<'a>> {
         let others = self.others(rt.alloc(), read)?;
-        let pulse = self.pulse(rt, total, &others)?;
-        pulse.write_status(rt, err);
-        Ok(Reports {
-            pulse: Rc::new(rt.alloc(), pulse)?,
-            feed: self.feed(rt, &others)?,
+        self.reports_beside(rt, total, &others, err)
+    }
+
+    /// The same, of a command that uses these other files.
+    fn reports_beside<E: Write>(
+        &self,
+        rt: &HostRuntime,
+        total: Option<u64>,
+        others: &[&str],
+        err: &mut E,
+    ) -> Result<(Pulse, Reports), Failure<'a>> {
+        let chosen = self.chosen(rt.alloc())?;
+        let tables = self.tables(rt)?;
+        let (pulse, feed) = self.pulse_and_feed(rt, total, others, err)?;
+        let reports = Reports {
+            feed,
             tables,
             chosen,
-        })
+        };
+        Ok((pulse, reports))
+    }
+
+    /// The tables whose columns are described, if any are.
+    fn tables(&self, rt: &HostRuntime) -> Result<Option<DescribedTables>, Failure<'a>> {
+        match self.columns {
+            Some(name) => Ok(Some(read_tables(rt, name)?)),
+            None => Ok(None),
+        }
+    }
+
+    /// Lines of progress and the status, which is written first, and the change feed.
+    fn pulse_and_feed<E: Write>(
+        &self,
+        rt: &HostRuntime,
+        total: Option<u64>,
+        others: &[&str],
+        err: &mut E,
+    ) -> Result<(Pulse, Option<Feed>), Failure<'a>> {
+        let pulse = self.pulse(rt, total, others)?;
+        pulse.write_status(rt, err);
+        let feed = self.feed(rt, others)?;
+        Ok((pulse, feed))
     }
 
     /// The files that the command uses besides the change feed: those that it reads, the description, and the status.
@@ -152,16 +180,13 @@ impl<'g, 'a> Wanted<'g, 'a> {
         } else {
             None
         };
-        let status = match self.status {
-            Some(name) => {
-                let file = over_file(name, StatusFile::new(rt, name, self.db, others))?;
-                Some(Status::new(rt.alloc(), file))
-            }
-            None => None,
+        let Some(name) = self.status else {
+            return Ok(Pulse::new(progress, None, String::new(rt.alloc())));
         };
-        let name = self.status.unwrap_or("");
-        let file = format!(in rt.alloc(); "{name}")?;
-        Ok(Pulse::new(progress, status, file))
+        let file = over_file(name, StatusFile::new(rt, name, self.db, others))?;
+        let status = Status::new(rt.alloc(), file);
+        let named = format!(in rt.alloc(); "{name}")?;
+        Ok(Pulse::new(progress, Some(status), named))
     }
 
     /// The change feed, if one is asked for. Its file may be none of the others that the command uses.
@@ -187,6 +212,21 @@ impl<'g, 'a> Wanted<'g, 'a> {
     /// Whether standard output has the change feed.
     pub fn feeds_output(&self) -> bool {
         self.changes == Some(OUTPUT)
+    }
+
+    /// What was done, with its observer. Where it failed, the file that the change feed has made is removed.
+    pub fn unless_failed<'w, T, O: Write, E: Write>(
+        &self,
+        done: Result<T, Failure<'a>>,
+        watch: Watch<'w, O, E>,
+    ) -> Result<(T, Watch<'w, O, E>), Failure<'a>> {
+        match done {
+            Ok(done) => Ok((done, watch)),
+            Err(failure) => {
+                watch.discard(self.feed_name());
+                Err(failure)
+            }
+        }
     }
 
     /// The failure that stopped the reading, if there is one.
