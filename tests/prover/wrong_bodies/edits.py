@@ -47,11 +47,12 @@ def answers_of(text, clause):
     return None if used or is_whole else "\n".join(kept)
 
 
-def copy_of(crate, texts, changes, functions, number, clause):
-    """The copy of a function that has an edit's changes, under a name with this number; None if there can be none."""
+def copy_of(crate, texts, types, known, changes, functions, number, clause):
+    """The copy of a function that has an edit's changes, under a name with this number; None if there can be none, as there
+    is for no other function than the known ones."""
     path, function = changes[0][0], min(functions)
     text, at = texts[path], texts[path].index(changes[0][1])
-    if len(functions) > 1 or function not in functions_in(texts) or function_at(types_of(texts), path, text, at) != function:
+    if len(functions) > 1 or function not in known or function_at(types, path, text, at) != function:
         return None
     head = [it for it in FUNCTION.finditer(text) if it.start() < at][-1]
     end = text.index(f"\n{head[1]}}}\n", head.end()) + len(f"\n{head[1]}}}\n")
@@ -90,11 +91,11 @@ def functions_of(types, texts, path, old):
     return {function_at(types, file, texts[file], at) for file, at in places} - {None}
 
 
-def read_edit(lines, texts):
+def read_edit(lines, texts, types):
     """The changes of an edit (file, old text, new text), the functions that they change, whether all of them lie in these,
     and the clause that it names."""
     path, old, clause, changes, functions, is_within = None, None, None, [], set(), True
-    types, texts = types_of(texts), dict(texts)
+    texts = dict(texts)
     for line in lines:
         if line.startswith("file: "):
             path = line[len("file: ") :].strip()
@@ -134,14 +135,15 @@ def added_by(edit, texts):
 def edits_of(name, unedited=False):
     """The edits of a crate, or these with nothing changed; and what is wrong with others."""
     edits, bad, texts = [], [], sources_of(f"{ROOT}/crates/{name}")
+    types, known = types_of(texts), functions_in(texts)
     folder = f"{ROOT}/crates/{name}/must-fail"
     for file in sorted(os.listdir(folder)):
         try:
             with open(f"{folder}/{file}", encoding="utf-8") as it:
-                changes, functions, is_within, clause = read_edit(it.read().split("\n"), texts)
+                changes, functions, is_within, clause = read_edit(it.read().split("\n"), texts, types)
             if unedited:
                 changes = [(path, old, old) for path, old, _ in changes[:1]]
-            edits.append(Edit(file, changes, functions, is_within, copy_of(name, texts, changes, functions, len(edits), clause)))
+            edits.append(Edit(file, changes, functions, is_within, copy_of(name, texts, types, known, changes, functions, len(edits), clause)))
         except (OSError, ValueError) as why:
             bad.append(f"{name}/{file}: BAD EDIT: {why}")
     return edits, bad
