@@ -50,6 +50,7 @@ mod listed_file;
 mod loaded_file;
 mod loading;
 mod login;
+mod memory_stream;
 mod message;
 mod observer;
 mod payload;
