@@ -33,6 +33,9 @@ class Progress:
     def __init__(self, who: str, tasks: Tasks, edits: Optional[str] = None) -> None:
         self.who, self.tasks, self.edits, self.processors = who, tasks, edits, lanes()
         self.known = seconds_of(KNOWN)
+        # When tasks were first seen to run, their seconds of the clock since then, more on a busy machine, and of a processor.
+        self.begun: Seconds = {}
+        self.ran: Seconds = {}
         self.spent: Seconds = {}
         self.done: Set[str] = set()
         self.running: List[str] = []
@@ -56,10 +59,10 @@ class Progress:
         return self.known.get(task, statistics.median(alike or [60]))
 
     def clock(self) -> float:
-        """About how many seconds of the clock are left, as fast as the crates that were proved here."""
+        """About how many seconds of the clock are left, at the pace of the crates that were proved here."""
         here = [it for it in self.done if kind_of(it) == 'crate' and it in self.spent and it in self.known]
-        scale = sum(self.spent[it] for it in here) / sum(self.known[it] for it in here) if here else 1
-        left = {it: max(0.0, scale * self.usual(it) - self.spent.get(it, 0)) for it in self.tasks if it not in self.done}
+        scale = sum(self.ran[it] for it in here) / sum(self.known[it] for it in here) if here else 1
+        left = {it: max(0.0, scale * self.usual(it) - self.ran.get(it, 0)) for it in self.tasks if it not in self.done}
         return clock(left, self.tasks, self.running, self.processors)
 
     def tell(self, news: str = '') -> None:
@@ -79,14 +82,17 @@ class Progress:
 
     def look(self, running: Iterable[str]) -> None:
         """Takes note of the crates and parts that run and of the wrong bodies, and says it where nothing was said for long."""
-        self.running = [*running]
+        self.running, now = [*running], time.monotonic()
+        self.ran.update({task: now - self.begun.setdefault(task, now) for task in self.running})
         if self.edits and os.path.exists(self.edits):
             with open(self.edits, encoding='utf-8', errors='replace') as file:
                 tried = {f'edits {it[1]}': it for it in TRIED.finditer(file.read())}
-            self.spent.update({task: float(it[4]) for task, it in tried.items() if it[4]})
+            seconds = {task: float(it[4]) for task, it in tried.items() if it[4]}
+            self.spent.update(seconds)
+            self.ran.update(seconds)
             self.done.update(task for task, it in tried.items() if it[2] == it[3])
             self.running += [it for it in tried if it not in self.done]
-        if time.monotonic() - self.last > BEAT:
+        if now - self.last > BEAT:
             self.tell()
 
     def keep(self) -> None:
