@@ -8,11 +8,14 @@
 #             DESTDIR before it; and removes them
 # make test   runs the whole gate, tests/run: every proof, beside them the wrong bodies, and then, with the program that was
 #             built, every other folder of tests/ that has a `run`
+# make mutants, make record
+#             tries all wrong bodies; tries those that tests/prover/refused does not have as they are, and writes it. Both
+#             prove first what is not proved yet
 # make bench  times mrep, the sets and the transactions against plain Rust programs that do the same jobs, the store
 #             against the C library of SQLite, a whole replay against a C program, and mrep over twice and four times as
 #             much (needs rustc; the store also python3, the replay cc and the library of SQLite)
 
-.PHONY: all build demo install uninstall test bench
+.PHONY: all build demo install uninstall test mutants record bench
 
 PREFIX = /usr/local
 DESTDIR =
@@ -38,6 +41,12 @@ uninstall:
 
 test:
 	tests/run
+
+mutants:
+	tests/run --all
+
+record:
+	tests/run --record
 
 bench: build
 	bench/run
