@@ -50,7 +50,6 @@ def crates_of(workspace: str) -> Tasks:
 def tasks_of_gate() -> Tasks:
     crates = crates_of(ROOT)
     parts = sorted(os.path.relpath(os.path.dirname(it), f'{ROOT}/tests') for it in glob.glob(f'{ROOT}/tests/*/*/run'))
-    parts += ['unit'] if os.path.exists(f'{ROOT}/tests/unit/run') else []  # until it is tests/libraries/calls
     edits = [it for it in crates if glob.glob(f'{ROOT}/crates/{it.split()[1]}/must-fail/*.edit')]
     return {**crates, **{f'part {it}': [*crates] for it in parts if it != EDITS}, **{f'edits {it.split()[1]}': [it] for it in edits}}
 
