@@ -1,9 +1,10 @@
 -- The exit statuses of the commands.
-use Rattle.std.specs.Prelude.{◌≡◌, ◌≢◌, ℕ}
+use Rattle.std.specs.Prelude.{◌≡◌, ◌≢◌, ℕ, ⊤, ⊥}
 use Rattle.std.specs.IoError.{error_kind}
 use Rattle.std.specs.declared.io.Error.{Error}
 use Rattle.std.specs.declared.io.ErrorKind.TheVariants as io_kind
 use Rattle.clap.specs.Words.{kind_of}
+use Rattle.clap.specs.declared.error.Error.{Error as WordsError}
 use Rattle.clap.specs.declared.error.ErrorKind.TheVariants as clap_kind
 use Rattle.mrep.specs.declared.report.failure.Failure.{Failure}
 use Rattle.command_line.specs.declared.arguments.ArgumentFault.{ArgumentFault}
@@ -19,7 +20,9 @@ use Rattle.replica.specs.declared.loading.Unloadable.{Unloadable as Refusal}
 use Rattle.replica.specs.declared.loading.Unloadable.TheVariants.{Failed}
 use Rattle.store.specs.declared.fault.StoreFault.{StoreFault}
 use Rattle.store.specs.declared.fault.StoreFault.TheVariants as store
-use Rattle.mrep.specs.declared.report.failure.Failure.TheVariants.{Words, Argument, Description, Tables, Copy, Unloadable, Misfit, User, File, Host, Database, Damaged, Unusable, Output, Memory}
+use Rattle.mrep.specs.declared.report.failure.Failure.TheVariants.{Memory, Output, Told}
+use Rattle.mrep.specs.declared.report.failure.Kind.{Kind}
+use Rattle.mrep.specs.declared.report.failure.Kind.TheVariants as kind
 
 -- 4 if memory ran out, otherwise 3
 abbrev pub IsFileStatus : Error → ℕ → Type 0
@@ -63,21 +66,33 @@ abbrev pub unloadable_status : Refusal → ℕ
 unloadable_status (Failed cause) = database_status cause
 unloadable_status _ = 1
 
--- 1 for a row that does not fit the description, for a file that is no copy, and for a copy that may not be loaded; 2 for a mistake in the arguments, such as a text that is not a set or
--- a user name, and for a file that is no description or of which no tables are made; 3 for a file, a host, a database or the output; 4 if memory ran out
+-- 4 if memory ran out, otherwise 2
+abbrev pub IsWordsStatus : WordsError → ℕ → Type 0
+IsWordsStatus error status = (kind_of error ≡ clap_kind.OutOfMemory → status ≡ 4) × (kind_of error ≢ clap_kind.OutOfMemory → status ≡ 2)
+
+-- 2 for a mistake in the arguments, such as a text that is not a set or a user name, and for a file that is no description or of which no tables are made; 1 for a file that is no
+-- copy, for a copy that may not be loaded, and for a row that does not fit the description; 3 for a file, a host or the database; 4 if memory ran out
+abbrev pub kind_status : Kind → ℕ
+kind_status kind.Usage = 2
+kind_status kind.Refused = 1
+kind_status kind.Misfit = 1
+kind_status kind.Files = 3
+kind_status kind.Memory = 4
+
+-- by its kind; 4 if memory ran out, and 3 for the output
 abbrev pub IsStatus : Failure → ℕ → Type 0
-IsStatus (Words error) status = (kind_of error ≡ clap_kind.OutOfMemory → status ≡ 4) × (kind_of error ≢ clap_kind.OutOfMemory → status ≡ 2)
-IsStatus (Argument fault) status = status ≡ argument_status fault
-IsStatus (Description name fault) status = status ≡ description_status fault.fault
-IsStatus (Tables name fault) status = status ≡ tables_status fault
-IsStatus (Misfit name misfit) status = status ≡ 1
-IsStatus (Copy name fault) status = IsCopyStatus fault status
-IsStatus (Unloadable name why) status = status ≡ unloadable_status why
-IsStatus (User word cause) status = status ≡ 2
-IsStatus (Database name cause) status = status ≡ database_status cause
-IsStatus (Damaged name damage) status = status ≡ 3
-IsStatus (Unusable name why) status = status ≡ 3
-IsStatus (File name cause) status = IsFileStatus cause status
-IsStatus (Host name cause) status = IsFileStatus cause status
-IsStatus (Output cause) status = IsFileStatus cause status
 IsStatus Memory status = status ≡ 4
+IsStatus (Output cause) status = IsFileStatus cause status
+IsStatus (Told kind message) status = status ≡ kind_status kind
+
+-- it is of this kind, unless memory ran out for its message
+abbrev pub IsTold : Kind → Failure → Type 0
+IsTold kind Memory = ⊤
+IsTold kind (Output cause) = ⊥
+IsTold kind (Told its message) = its ≡ kind
+
+-- its status is one of these, unless memory ran out for its message
+abbrev pub Tells : (ℕ → Type 0) → Failure → Type 0
+Tells are Memory = ⊤
+Tells are (Output cause) = ⊥
+Tells are (Told kind message) = are (kind_status kind)

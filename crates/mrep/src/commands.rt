@@ -29,7 +29,7 @@ use crate::commands::sets::{adopt, gtids, missing};
 use crate::commands::show::{show, tables};
 use crate::commands::skip::skip;
 use crate::commands::verify::verify;
-use crate::report::failure::{DONE, Failure, MEMORY, write_failure};
+use crate::report::failure::{DONE, Failure, MEMORY, of_words, over_argument, write_failure};
 use clap::{ArgMatches, Command};
 use command_line::{
     escaped, grammar, input_again, no_command, parse_tables, word, write_completions, write_help,
@@ -70,12 +70,12 @@ pub fn command<S: AsStr, O: Write, E: Write>(
     }
 }
 
-fn run<'a, S: AsStr, O: Write, E: Write>(
-    rt: &'a HostRuntime,
-    words: &'a [S],
+fn run<S: AsStr, O: Write, E: Write>(
+    rt: &HostRuntime,
+    words: &[S],
     out: &mut O,
     err: &mut E,
-) -> Result<u8, Failure<'a>>
+) -> Result<u8, Failure>
     ensures { IfOk result (λ status. status ≤ MEMORY) }
 {
     let mut command = grammar(rt.alloc())?;
@@ -86,48 +86,48 @@ fn run<'a, S: AsStr, O: Write, E: Write>(
 }
 
 /// Prints help or the version, where words ask for that; otherwise they are a mistake.
-fn answer<'a, S: AsStr, O: Write>(
+fn answer<S: AsStr, O: Write>(
     alloc: Global,
     words: &[S],
     error: clap::Error,
     out: &mut O,
-) -> Result<u8, Failure<'a>>
+) -> Result<u8, Failure>
     ensures { IfOk result (λ status. status ≤ MEMORY) }
 {
     if error.use_stderr() {
-        return Err(Failure::Words(escaped(alloc, words, error)?));
+        return Err(of_words(alloc, &escaped(alloc, words, error)?));
     }
     write_help(&error, out)?;
     Ok(DONE)
 }
 
 /// Runs the command of the matches.
-fn run_matches<'a, O: Write, E: Write>(
-    rt: &'a HostRuntime,
-    command: &mut Command<'a>,
-    matches: &ArgMatches<'a>,
+fn run_matches<O: Write, E: Write>(
+    rt: &HostRuntime,
+    command: &mut Command<'_>,
+    matches: &ArgMatches<'_>,
     out: &mut O,
     err: &mut E,
-) -> Result<u8, Failure<'a>>
+) -> Result<u8, Failure>
     ensures { IfOk result (λ status. status ≤ MEMORY) }
 {
     let Some((name, given)) = matches.subcommand() else {
-        return Err(mistake(no_command(command)));
+        return Err(mistake(rt.alloc(), no_command(command)));
     };
     if reads_input_again(given) {
-        return Err(mistake(input_again(command)));
+        return Err(mistake(rt.alloc(), input_again(command)));
     }
     note_patterns(given.get_strs("only").unwrap_or(&[]), err);
     match run_named(rt, name, given, out, err)? {
         Some(status) => flushed(status, out, err),
-        None => Err(mistake(no_command(command))),
+        None => Err(mistake(rt.alloc(), no_command(command))),
     }
 }
 
 /// The failure of a mistake in the arguments, whose text takes memory.
-fn mistake<'a>(found: Result<clap::Error, AllocError>) -> Failure<'a> {
+fn mistake(alloc: Global, found: Result<clap::Error, AllocError>) -> Failure {
     match found {
-        Ok(error) => Failure::Words(error),
+        Ok(error) => of_words(alloc, &error),
         Err(_) => Failure::Memory,
     }
 }
@@ -139,13 +139,13 @@ fn reads_input_again(given: &ArgMatches<'_>) -> bool {
 }
 
 /// Runs the command of this name, if there is one.
-fn run_named<'a, W: Write, E: Write>(
-    rt: &'a HostRuntime,
+fn run_named<W: Write, E: Write>(
+    rt: &HostRuntime,
     name: &str,
-    given: &ArgMatches<'a>,
+    given: &ArgMatches<'_>,
     out: &mut W,
     err: &mut E,
-) -> Result<Option<u8>, Failure<'a>>
+) -> Result<Option<u8>, Failure>
     ensures { IfOk result (λ done. IfSome done (λ status. status ≤ MEMORY)) }
 {
     let done = match name {
@@ -171,7 +171,7 @@ fn run_named<'a, W: Write, E: Write>(
 }
 
 /// Prints the completions of a shell.
-fn completions<'a, W: Write>(given: &ArgMatches<'a>, out: &mut W) -> Result<u8, Failure<'a>>
+fn completions<W: Write>(given: &ArgMatches<'_>, out: &mut W) -> Result<u8, Failure>
     ensures { IfOk result (λ status. status ≡ DONE) }
 {
     write_completions(word(given, "SHELL"), out)?;
@@ -179,26 +179,28 @@ fn completions<'a, W: Write>(given: &ArgMatches<'a>, out: &mut W) -> Result<u8, 
 }
 
 /// Prints the query that a description of the columns is made by.
-fn columns<'a, W: Write>(
+fn columns<W: Write>(
     rt: &HostRuntime,
-    given: &ArgMatches<'a>,
+    given: &ArgMatches<'_>,
     out: &mut W,
-) -> Result<u8, Failure<'a>>
+) -> Result<u8, Failure>
     ensures { IfOk result (λ status. status ≡ DONE) }
 {
-    let only = parse_tables(rt.alloc(), given.get_strs("only").unwrap_or(&[]))?;
+    let alloc = rt.alloc();
+    let only = given.get_strs("only").unwrap_or(&[]);
+    let only = over_argument(alloc, parse_tables(alloc, only))?;
     write_query(&only, out)?;
     Ok(DONE)
 }
 
 /// Runs the command of this name, which only reads a database, and reports if it has made that.
-fn read<'a, W: Write, E: Write>(
-    rt: &'a HostRuntime,
+fn read<W: Write, E: Write>(
+    rt: &HostRuntime,
     name: &str,
-    given: &ArgMatches<'a>,
+    given: &ArgMatches<'_>,
     out: &mut W,
     err: &mut E,
-) -> Result<u8, Failure<'a>>
+) -> Result<u8, Failure>
     ensures { IfOk result (λ status. status ≤ MEMORY) }
 {
     let db = word(given, "db");
@@ -226,7 +228,7 @@ pub fn note_if_made<W: Write, E: Write>(rt: &HostRuntime, db: &str, out: &mut W,
 
 /// Flushes the output of a command that ends with this status. If that fails, a command with status 0 fails, and any
 /// other keeps its status.
-fn flushed<'a, O: Write, E: Write>(status: u8, out: &mut O, err: &mut E) -> Result<u8, Failure<'a>>
+fn flushed<O: Write, E: Write>(status: u8, out: &mut O, err: &mut E) -> Result<u8, Failure>
     ensures { status ≤ MEMORY → IfOk result (λ s. s ≤ MEMORY) }
 {
     match out.flush() {

@@ -8,7 +8,7 @@ ghost use Rattle.std.specs.Prelude.{◌≡◌, IfOk};
 
 use crate::commands::export::fill_tables;
 use crate::database::open::{lock, test};
-use crate::report::failure::{DONE, Failure, over_file};
+use crate::report::failure::{DONE, Failure, of_system, over_file, unusable};
 use clap::ArgMatches;
 use command_line::word;
 use files::{Names, Part, is_there, keep_one_name, lock_alone, make_part};
@@ -40,7 +40,7 @@ impl<'a> Target<'a> {
 
 /// Copies a database to a file. One that is there is replaced only if that is asked for, and no other process has it open
 /// as a database or is about to open it. After a failure that file is as it was, and no other is left.
-pub fn copy<'a>(rt: &HostRuntime, given: &ArgMatches<'a>) -> Result<u8, Failure<'a>>
+pub fn copy(rt: &HostRuntime, given: &ArgMatches<'_>) -> Result<u8, Failure>
     ensures { IfOk result (λ status. status ≡ DONE) }
 {
     make_file(rt, Target::of(given), None)?;
@@ -49,11 +49,11 @@ pub fn copy<'a>(rt: &HostRuntime, given: &ArgMatches<'a>) -> Result<u8, Failure<
 
 /// Makes a file as [`copy`] does: a copy of the database, or tables with its rows. Returns what is to be reported of tables
 /// without rows.
-pub fn make_file<'a>(
+pub fn make_file(
     rt: &HostRuntime,
-    target: Target<'a>,
+    target: Target<'_>,
     export: Option<Export>,
-) -> Result<Vec<u8>, Failure<'a>> {
+) -> Result<Vec<u8>, Failure> {
     let from = checked(rt, target)?;
     // What comes to have the name from now on is not replaced: it is not locked.
     let replaces = target.force && is_there(rt, target.to).unwrap_or(false);
@@ -65,23 +65,24 @@ pub fn make_file<'a>(
 }
 
 /// The names of a database that can be copied to its target, as far as that is known before.
-fn checked<'a>(rt: &HostRuntime, target: Target<'a>) -> Result<Names, Failure<'a>> {
+fn checked(rt: &HostRuntime, target: Target<'_>) -> Result<Names, Failure> {
     let Target { db, to, force } = target;
-    let from = over_file(db, Names::of(rt, db))?;
-    over_file(db, from.check(rt))?;
-    over_file(to, from.check_target(rt, to, force))?;
+    let alloc = rt.alloc();
+    let from = over_file(alloc, db, Names::of(rt, db))?;
+    over_file(alloc, db, from.check(rt))?;
+    over_file(alloc, to, from.check_target(rt, to, force))?;
     keep_one_name(rt, to)?;
     Ok(from)
 }
 
 /// Makes a file of the name of one that is there, which no other process has open meanwhile.
-fn replace<'a>(
+fn replace(
     rt: &HostRuntime,
-    target: Target<'a>,
+    target: Target<'_>,
     from: &Names,
     export: Option<Export>,
-) -> Result<Vec<u8>, Failure<'a>> {
-    let name_lock = over_file(target.to, lock_alone(rt, target.to))?;
+) -> Result<Vec<u8>, Failure> {
+    let name_lock = over_file(rt.alloc(), target.to, lock_alone(rt, target.to))?;
     let replaced = lock(rt, target.to)?;
     let made = make_beside(rt, target, from, true, export);
     drop(replaced);
@@ -90,16 +91,16 @@ fn replace<'a>(
 }
 
 /// Makes a file, after another look at its name once nobody else makes one of that name. No file is left after a failure.
-fn make_beside<'a>(
+fn make_beside(
     rt: &HostRuntime,
-    target: Target<'a>,
+    target: Target<'_>,
     from: &Names,
     replaces: bool,
     export: Option<Export>,
-) -> Result<Vec<u8>, Failure<'a>> {
+) -> Result<Vec<u8>, Failure> {
     let Target { to, force, .. } = target;
-    let part = over_file(to, make_part(rt, from, to))?;
-    let made = match over_file(to, from.check_target(rt, to, force)) {
+    let part = over_file(rt.alloc(), to, make_part(rt, from, to))?;
+    let made = match over_file(rt.alloc(), to, from.check_target(rt, to, force)) {
         Ok(()) => make(rt, target, from, &part, replaces, export),
         Err(failure) => Err(failure),
     };
@@ -108,14 +109,14 @@ fn make_beside<'a>(
 }
 
 /// Makes a file under another name, and gives it its own.
-fn make<'a>(
+fn make(
     rt: &HostRuntime,
-    target: Target<'a>,
+    target: Target<'_>,
     from: &Names,
     part: &Part,
     replaces: bool,
     export: Option<Export>,
-) -> Result<Vec<u8>, Failure<'a>> {
+) -> Result<Vec<u8>, Failure> {
     let Target { db, to, .. } = target;
     let notes = match export {
         Some(export) => fill_tables(rt, target, from, part, export)?,
@@ -125,27 +126,24 @@ fn make<'a>(
             Vec::new(rt.alloc())
         }
     };
-    over_file(to, part.put(rt, to, replaces))?;
+    over_file(rt.alloc(), to, part.put(rt, to, replaces))?;
     Ok(notes)
 }
 
 /// Copies the files of a database.
-pub fn fill<'a>(
+pub fn fill(
     rt: &HostRuntime,
-    target: Target<'a>,
+    target: Target<'_>,
     from: &Names,
     part: &Part,
-) -> Result<(), Failure<'a>> {
+) -> Result<(), Failure> {
     let Target { db, to, .. } = target;
     if let Err(cause) = from.try_read(rt) {
-        return Err(Failure::File { name: db, cause });
+        return Err(of_system(rt.alloc(), db, cause));
     }
     match part.fill(rt, from) {
         Ok(true) => Ok(()),
-        Ok(false) => Err(Failure::Unusable {
-            name: db,
-            why: TOO_FAST,
-        }),
-        Err(cause) => Err(Failure::File { name: to, cause }),
+        Ok(false) => Err(unusable(rt.alloc(), db, TOO_FAST)),
+        Err(cause) => Err(of_system(rt.alloc(), to, cause)),
     }
 }

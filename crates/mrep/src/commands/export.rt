@@ -8,7 +8,9 @@ ghost use Rattle.std.specs.Prelude.{◌≡◌, IfOk};
 use crate::commands::copy::{Target, fill, make_file};
 use crate::database::description::read_description;
 use crate::database::exporter::{Source, export_rows};
-use crate::report::failure::{DONE, Failure, over_file};
+use crate::report::failure::{
+    DONE, Failure, of_system, of_tables, over_argument, over_file, unusable,
+};
 use binlog::Follow;
 use clap::ArgMatches;
 use command_line::{parse_schema, parse_tables, word};
@@ -25,20 +27,17 @@ const ROWS_PART: &str =
 
 /// Makes a database with the rows of described tables, and reports of which that are named there was none, and which the
 /// filter leaves out. The file is made as that of a copy.
-pub fn export<'a, E: Write>(
+pub fn export<E: Write>(
     rt: &HostRuntime,
-    given: &ArgMatches<'a>,
+    given: &ArgMatches<'_>,
     err: &mut E,
-) -> Result<u8, Failure<'a>>
+) -> Result<u8, Failure>
     ensures { IfOk result (λ status. status ≡ DONE) }
 {
     let target = Target::of(given);
     let name = word(given, "columns");
     if lead_to_one(rt, target.to, name) {
-        return Err(Failure::Unusable {
-            name: target.to,
-            why: DESCRIPTION,
-        });
+        return Err(unusable(rt.alloc(), target.to, DESCRIPTION));
     }
     let export = wanted(rt, given, name)?;
     let notes = make_file(rt, target, Some(export))?;
@@ -47,27 +46,28 @@ pub fn export<'a, E: Write>(
 }
 
 /// Which tables the arguments ask for, of the description in the file of this name.
-fn wanted<'a>(
+fn wanted(
     rt: &HostRuntime,
-    given: &ArgMatches<'a>,
-    name: &'a str,
-) -> Result<Export, Failure<'a>> {
+    given: &ArgMatches<'_>,
+    name: &str,
+) -> Result<Export, Failure> {
     let alloc = rt.alloc();
-    let only = parse_tables(alloc, given.get_strs("only").unwrap_or(&[]))?;
+    let only = given.get_strs("only").unwrap_or(&[]);
+    let only = over_argument(alloc, parse_tables(alloc, only))?;
     let bare = match given.get_str("schema") {
-        Some(word) => Some(parse_schema(alloc, word)?),
+        Some(word) => Some(over_argument(alloc, parse_schema(alloc, word))?),
         None => None,
     };
     described(rt, name, only, bare.as_deref())
 }
 
 /// What is exported of the description in the file of this name: these of its tables, those of one schema without its name.
-fn described<'a>(
+fn described(
     rt: &HostRuntime,
-    name: &'a str,
+    name: &str,
     only: Follow,
     bare: Option<&[u8]>,
-) -> Result<Export, Failure<'a>> {
+) -> Result<Export, Failure> {
     let tables = tables(rt, name, &only, bare)?;
     Ok(Export {
         tables,
@@ -76,38 +76,33 @@ fn described<'a>(
 }
 
 /// The tables of the description in the file of this name, as far as they are asked for.
-fn tables<'a>(
+fn tables(
     rt: &HostRuntime,
-    name: &'a str,
+    name: &str,
     only: &Follow,
     bare: Option<&[u8]>,
-) -> Result<Tables, Failure<'a>> {
+) -> Result<Tables, Failure> {
     let described = read_description(rt, name)?;
     match Tables::new(rt.alloc(), described, only, bare) {
         Ok(tables) => Ok(tables),
-        Err(fault) => Err(Failure::Tables { name, fault }),
+        Err(fault) => Err(of_tables(rt.alloc(), name, &fault)),
     }
 }
 
 /// Makes the tables of a file that is made, out of a copy of the database, which is removed. Returns what is to be reported of
 /// tables without rows.
-pub fn fill_tables<'a>(
+pub fn fill_tables(
     rt: &HostRuntime,
-    target: Target<'a>,
+    target: Target<'_>,
     from: &Names,
     part: &Part,
     export: Export,
-) -> Result<Vec<u8>, Failure<'a>> {
+) -> Result<Vec<u8>, Failure> {
     let to = target.to;
     let rows = format!(in rt.alloc(); "{to}.rows")?;
     let source = match make_part(rt, from, rows.as_str()) {
-        Err(FileFault::Unusable(_)) => {
-            return Err(Failure::Unusable {
-                name: to,
-                why: ROWS_PART,
-            });
-        }
-        made => over_file(to, made)?,
+        Err(FileFault::Unusable(_)) => return Err(unusable(rt.alloc(), to, ROWS_PART)),
+        made => over_file(rt.alloc(), to, made)?,
     };
     let done = fill_from(rt, target, from, part, &source, export);
     source.remove(rt, false);
@@ -115,14 +110,14 @@ pub fn fill_tables<'a>(
 }
 
 /// Copies a database, and makes the tables out of the copy. The file has no WAL file, and the mode of the database.
-fn fill_from<'a>(
+fn fill_from(
     rt: &HostRuntime,
-    target: Target<'a>,
+    target: Target<'_>,
     from: &Names,
     part: &Part,
     source: &Part,
     export: Export,
-) -> Result<Vec<u8>, Failure<'a>> {
+) -> Result<Vec<u8>, Failure> {
     fill(rt, target, from, source)?;
     let Target { db, to, .. } = target;
     let copied = Source {
@@ -133,7 +128,7 @@ fn fill_from<'a>(
     let notes = export_rows(rt, copied, part.names.file.as_str(), export)?;
     match finish(part, source) {
         Ok(()) => Ok(notes),
-        Err(cause) => Err(Failure::File { name: to, cause }),
+        Err(cause) => Err(of_system(rt.alloc(), to, cause)),
     }
 }
 

@@ -3,7 +3,9 @@
 ghost use Rattle.std.specs.Prelude.{◌≤◌, ⊤, IfOk};
 
 use crate::database::open::{closed, opened, opening};
-use crate::report::failure::{Failure, MEMORY, over_file, write_failure};
+use crate::report::failure::{
+    Failure, Kind, MEMORY, named, of_system, over_argument, over_file, write_failure,
+};
 use crate::report::status::{counted, status_after};
 use crate::report::wanted::{Wanted, waited};
 use binlog::Follow;
@@ -15,6 +17,7 @@ use gtid::GtidSet;
 use replica::{Config, ConfigFault, Connect, Ended, FollowedFile, Observer, Until, follow_file};
 use reports::{Pulse, Reports, Socket, Watch};
 use sqlite_disk::Unknown;
+use std::alloc::Global;
 use std::io;
 use std::io::{ErrorKind, Write};
 use std::net::TcpStream;
@@ -25,16 +28,17 @@ use wire::LARGEST_PAYLOAD;
 ///
 /// Faults are looked for in the arguments, the password file, the user name, the database and the socket, in this
 /// order.
-pub fn follow<'a, W: Write, E: Write>(
+pub fn follow<W: Write, E: Write>(
     rt: &HostRuntime,
-    given: &ArgMatches<'a>,
+    given: &ArgMatches<'_>,
     out: &mut W,
     err: &mut E,
-) -> Result<u8, Failure<'a>>
+) -> Result<u8, Failure>
     ensures { IfOk result (λ status. status ≤ MEMORY) }
 {
-    let wanted = Wanted::of(given)?;
-    let port = parse_number(word(given, "port"), 65_535)? as u16;
+    let wanted = Wanted::of(rt.alloc(), given)?;
+    let port = parse_number(word(given, "port"), 65_535);
+    let port = over_argument(rt.alloc(), port)? as u16;
     let following = Following::of(rt, given, &wanted)?;
     let password_file = word(given, "password-file");
     warn(rt, password_file, err);
@@ -49,14 +53,14 @@ pub fn follow<'a, W: Write, E: Write>(
 }
 
 /// Follows the source at a host, and prints how the connection ended.
-fn follow_host<'a, W: Write, E: Write>(
-    host: Host<'_, 'a>,
-    wanted: &Wanted<'_, 'a>,
+fn follow_host<W: Write, E: Write>(
+    host: Host<'_, '_>,
+    wanted: &Wanted<'_, '_>,
     following: Following,
     reports: Reports,
     out: &mut W,
     err: &mut E,
-) -> Result<u8, Failure<'a>>
+) -> Result<u8, Failure>
     ensures { IfOk result (λ status. status ≤ MEMORY) }
 {
     let Host {
@@ -69,7 +73,7 @@ fn follow_host<'a, W: Write, E: Write>(
     let watch = Watch::new(wanted.source(rt, &streams, port), pulse, reports, out, err);
     let (followed, watch) = follow_until(host, wanted.db, following, watch);
     let (end, done) = match followed {
-        Ok(followed) => concluded(wanted, followed, watch),
+        Ok(followed) => concluded(rt.alloc(), wanted, followed, watch),
         Err(failure) => {
             watch.discard(wanted.feed_name());
             return Err(failure);
@@ -79,17 +83,18 @@ fn follow_host<'a, W: Write, E: Write>(
         Ok(end) => status_after(counted(&[end], &done), done, err),
         Err(cause) => {
             write_failure(done, err);
-            Err(Failure::Host { name, cause })
+            Err(of_system(rt.alloc(), name, cause))
         }
     }
 }
 
 /// Prints how the connection ended. Returns that, or why there is no connection, and whether all else was done.
-fn concluded<'a, W: Write, E: Write>(
-    wanted: &Wanted<'_, 'a>,
-    followed: Followed<'a>,
+fn concluded<W: Write, E: Write>(
+    alloc: Global,
+    wanted: &Wanted<'_, '_>,
+    followed: Followed,
     mut watch: Watch<'_, W, E>,
-) -> (io::Result<Ended>, Result<(), Failure<'a>>) {
+) -> (io::Result<Ended>, Result<(), Failure>) {
     let Followed {
         connection,
         closed,
@@ -99,18 +104,18 @@ fn concluded<'a, W: Write, E: Write>(
         Ok((end, failure)) => {
             let printed = watch.report(1, &end, failure);
             watch.note_missing();
-            let stopped = wanted.stopped(watch.stop()).and(waited(is_out_of_memory));
+            let stopped = wanted.stopped(alloc, watch.stop()).and(waited(is_out_of_memory));
             (Ok(end), over_output(printed).and(stopped).and(closed))
         }
         Err(cause) => {
             watch.give_up();
-            (Err(cause), wanted.stopped(watch.stop()).and(closed))
+            (Err(cause), wanted.stopped(alloc, watch.stop()).and(closed))
         }
     }
 }
 
 /// What was done with the output.
-fn over_output<'a>(printed: io::Result<()>) -> Result<(), Failure<'a>> {
+fn over_output(printed: io::Result<()>) -> Result<(), Failure> {
     printed?;
     Ok(())
 }
@@ -135,13 +140,14 @@ struct Following {
 }
 
 impl Following {
-    fn of<'a>(
+    fn of(
         rt: &HostRuntime,
-        given: &ArgMatches<'a>,
-        wanted: &Wanted<'_, 'a>,
-    ) -> Result<Following, Failure<'a>> {
+        given: &ArgMatches<'_>,
+        wanted: &Wanted<'_, '_>,
+    ) -> Result<Following, Failure> {
         let until = wanted.until(rt.alloc())?;
-        let server_id = parse_number(word(given, "server-id"), u32::MAX)?;
+        let server_id = parse_number(word(given, "server-id"), u32::MAX);
+        let server_id = over_argument(rt.alloc(), server_id)?;
         let only = wanted.filter(rt.alloc())?;
         let config = settings(rt, given, server_id)?;
         Ok(Following {
@@ -153,13 +159,13 @@ impl Following {
 }
 
 /// The settings, with the password from its file: the bytes of the file without one line feed at the end.
-fn settings<'a>(
+fn settings(
     rt: &HostRuntime,
-    given: &ArgMatches<'a>,
+    given: &ArgMatches<'_>,
     server_id: u32,
-) -> Result<Config, Failure<'a>> {
+) -> Result<Config, Failure> {
     let (user, name) = (word(given, "user"), word(given, "password-file"));
-    let bytes = over_file(name, read_password(rt, name))?;
+    let bytes = over_file(rt.alloc(), name, read_password(rt, name))?;
     let password = match bytes.as_slice() {
         [line @ .., b'\n'] => line,
         all => all,
@@ -175,18 +181,18 @@ fn settings<'a>(
     ) {
         Ok(config) => Ok(config),
         Err(ConfigFault::Memory) => Err(Failure::Memory),
-        Err(cause) => Err(Failure::User { word: user, cause }),
+        Err(cause) => Err(named(rt.alloc(), Kind::Usage, user, &cause)),
     }
 }
 
 /// How following a source went.
 #[derive(Drop)]
-struct Followed<'a> {
+struct Followed {
     /// How the connection ended, and the cause of the last failure of its stream, if there was one; or why there is no
     /// connection.
     connection: io::Result<(Ended, Option<ErrorKind>)>,
     /// Whether the database was closed.
-    closed: Result<(), Failure<'a>>,
+    closed: Result<(), Failure>,
     /// Whether memory ran out for what is waited for.
     is_out_of_memory: bool,
 }
@@ -228,13 +234,13 @@ impl<'r> Connect for Host<'r, '_> {
 }
 
 /// Follows over a socket.
-fn follow_over<'a, W: Observer>(
+fn follow_over<W: Observer>(
     host: Host<'_, '_>,
-    db: &'a str,
+    db: &str,
     only: Option<&Follow>,
     config: Config,
     observer: &mut W,
-) -> Result<Followed<'a>, Failure<'a>> {
+) -> Result<Followed, Failure> {
     let rt = host.rt;
     let opening = opening(rt, db)?;
     let done = follow_file(rt, db, Unknown, only, config, host, observer);
@@ -248,18 +254,18 @@ fn follow_over<'a, W: Observer>(
     };
     Ok(Followed {
         connection,
-        closed: closed(db, files),
+        closed: closed(rt.alloc(), db, files),
         is_out_of_memory: false,
     })
 }
 
 /// Follows over a socket, until all of a set is executed if there is one, and gives the observer back.
-fn follow_until<'a, W: Observer>(
+fn follow_until<W: Observer>(
     host: Host<'_, '_>,
-    db: &'a str,
+    db: &str,
     following: Following,
     mut observer: W,
-) -> (Result<Followed<'a>, Failure<'a>>, W) {
+) -> (Result<Followed, Failure>, W) {
     let Following {
         only,
         config,

@@ -2,7 +2,7 @@
 
 ghost use Rattle.std.specs.Prelude.{◌≤◌, IfOk};
 
-use crate::report::failure::{DONE, Failure, REFUSED};
+use crate::report::failure::{DONE, Failure, REFUSED, of_system};
 use files::Input;
 use payloads::{Lines, ListFault, Listing, list_piece};
 use replica::{PIECE, read_some};
@@ -11,28 +11,31 @@ use std::io::{Read, Write};
 
 /// Lists the payloads of a file or of standard input, and returns the status: 0 if the file ends with a payload, 1 if it ends inside one or
 /// has a fault.
-pub fn list<'a, W: Write>(
+pub fn list<W: Write>(
     rt: &HostRuntime,
-    name: &'a str,
+    name: &str,
     lines: Lines,
     out: &mut W,
-) -> Result<u8, Failure<'a>>
+) -> Result<u8, Failure>
     ensures { IfOk result (λ status. status ≤ REFUSED) }
 {
-    let mut file = Input::open(rt, name).map_err(|cause| Failure::File { name, cause })?;
+    let mut file = match Input::open(rt, name) {
+        Ok(file) => file,
+        Err(cause) => return Err(of_system(rt.alloc(), name, cause)),
+    };
     let mut piece = vec![in rt.alloc(); 0; PIECE]?;
     list_all(rt.alloc(), &mut file, name, lines, &mut piece, out)
 }
 
 /// Lists the payloads of a file that is open, which is read to its end or up to a fault.
-fn list_all<'a, F: Read, W: Write>(
+fn list_all<F: Read, W: Write>(
     alloc: Global,
     file: &mut F,
-    name: &'a str,
+    name: &str,
     lines: Lines,
     piece: &mut [u8],
     out: &mut W,
-) -> Result<u8, Failure<'a>>
+) -> Result<u8, Failure>
     ensures { IfOk result (λ status. status ≤ REFUSED) }
 {
     let mut listing = Listing::new(alloc);
@@ -41,7 +44,7 @@ fn list_all<'a, F: Read, W: Write>(
         let count = match read_some(file, piece) {
             Ok(0) => break,
             Ok(count) => count,
-            Err(cause) => return Err(Failure::File { name, cause }),
+            Err(cause) => return Err(of_system(alloc, name, cause)),
         };
         match list_piece(&mut listing, lines, &piece[..count], out) {
             Ok(true) => {}
@@ -54,7 +57,7 @@ fn list_all<'a, F: Read, W: Write>(
 }
 
 /// Writes how many bytes of the last payload have come, and returns the status.
-fn write_rest<'a, W: Write>(rest: u64, out: &mut W) -> Result<u8, Failure<'a>>
+fn write_rest<W: Write>(rest: u64, out: &mut W) -> Result<u8, Failure>
     ensures { IfOk result (λ status. status ≤ REFUSED) }
 {
     writeln!(out, "rest {rest}")?;

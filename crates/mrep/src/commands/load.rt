@@ -5,18 +5,20 @@ ghost use Rattle.std.specs.Prelude.{◌≤◌, IfOk};
 use crate::commands::clear::failure_of;
 use crate::database::copied_rows::CopyFile;
 use crate::database::open::{closed, opened, opening};
-use crate::report::failure::{DONE, Failure, MEMORY, write_failure};
+use crate::report::failure::{
+    DONE, Failure, MEMORY, of_copy, of_database, of_unloadable, unusable, write_failure,
+};
 use crate::report::wanted::Wanted;
 use clap::ArgMatches;
 use first_copy::{RowsFault, Summary};
 use formats::Shown;
 use replica::{
-    ChangeEnd, Deliveries, Ended, FirstCopy, LoadEnd, LoadedFile, Observer, Reason, Unloadable,
-    load_file,
+    ChangeEnd, Deliveries, Ended, FirstCopy, LoadEnd, LoadedFile, Observer, Reason, load_file,
 };
 use reports::{Pulse, Watch};
 use sqlite::File;
 use sqlite_disk::Unknown;
+use std::alloc::Global;
 use std::io::Write;
 
 const CHANGED: &str =
@@ -24,42 +26,42 @@ const CHANGED: &str =
 
 /// Loads a first copy of tables, which is read to its end before the database is opened, and prints each table with the number
 /// of its rows.
-pub fn load<'a, W: Write, E: Write>(
+pub fn load<W: Write, E: Write>(
     rt: &HostRuntime,
-    given: &ArgMatches<'a>,
+    given: &ArgMatches<'_>,
     out: &mut W,
     err: &mut E,
-) -> Result<u8, Failure<'a>>
+) -> Result<u8, Failure>
     ensures { IfOk result (λ status. status ≤ MEMORY) }
 {
-    let wanted = Wanted::of(given)?;
+    let wanted = Wanted::of(rt.alloc(), given)?;
     let file = CopyFile::of(rt, given)?;
     load_copy(rt, &wanted, &file, out, err)?;
     Ok(DONE)
 }
 
 /// Loads a copy, and prints its tables.
-fn load_copy<'a, W: Write, E: Write>(
+fn load_copy<W: Write, E: Write>(
     rt: &HostRuntime,
-    wanted: &Wanted<'_, 'a>,
-    file: &CopyFile<'a>,
+    wanted: &Wanted<'_, '_>,
+    file: &CopyFile<'_>,
     out: &mut W,
     err: &mut E,
-) -> Result<(), Failure<'a>> {
+) -> Result<(), Failure> {
     let (summary, size) = file.summary(rt)?;
     load_summary(rt, wanted, file, &summary, size, out, err)
 }
 
 /// Loads the copy that was read, and prints its tables.
-fn load_summary<'a, W: Write, E: Write>(
+fn load_summary<W: Write, E: Write>(
     rt: &HostRuntime,
-    wanted: &Wanted<'_, 'a>,
-    file: &CopyFile<'a>,
+    wanted: &Wanted<'_, '_>,
+    file: &CopyFile<'_>,
     summary: &Summary,
     size: u64,
     out: &mut W,
     err: &mut E,
-) -> Result<(), Failure<'a>> {
+) -> Result<(), Failure> {
     load_rows(rt, wanted, file, summary, size, out, err)?;
     if wanted.feeds_output() {
         summary.print(err)?;
@@ -70,41 +72,42 @@ fn load_summary<'a, W: Write, E: Write>(
 }
 
 /// Loads the copy that was read.
-fn load_rows<'a, W: Write, E: Write>(
+fn load_rows<W: Write, E: Write>(
     rt: &HostRuntime,
-    wanted: &Wanted<'_, 'a>,
-    file: &CopyFile<'a>,
+    wanted: &Wanted<'_, '_>,
+    file: &CopyFile<'_>,
     summary: &Summary,
     size: u64,
     out: &mut W,
     err: &mut E,
-) -> Result<(), Failure<'a>> {
+) -> Result<(), Failure> {
     let (pulse, reports) = wanted.reports(rt, Some(size), &[file.name], err)?;
     let rows = file.rows(rt, summary, &pulse)?;
     let mut watch = Watch::new(wanted.source(rt, &[], 0), &pulse, reports, out, err);
     let done = load_into(rt, wanted.db, summary.copy(), rows, &mut watch);
     let (done, watch) = wanted.unless_failed(done, watch)?;
-    let stopped = wanted.stopped(watch.stop());
+    let stopped = wanted.stopped(rt.alloc(), watch.stop());
     report_end(rt, &pulse, size, done.applied, err);
-    concluded([wanted.db, file.name], done, stopped, err)
+    concluded(rt.alloc(), [wanted.db, file.name], done, stopped, err)
 }
 
 /// What a load comes to. The names are those of the database and of the copy. If it was not done, a failure of closing the database
 /// is only reported.
-fn concluded<'a, E: Write>(
-    names: [&'a str; 2],
+fn concluded<E: Write>(
+    alloc: Global,
+    names: [&str; 2],
     done: LoadedFile<RowsFault, File>,
-    stopped: Result<(), Failure<'a>>,
+    stopped: Result<(), Failure>,
     err: &mut E,
-) -> Result<(), Failure<'a>> {
+) -> Result<(), Failure> {
     let [db, name] = names;
     let LoadedFile {
         applied,
         end,
         closed: files,
     } = done;
-    let files = closed(db, files);
-    match outcome(db, name, end).and(stopped) {
+    let files = closed(alloc, db, files);
+    match outcome(alloc, db, name, end).and(stopped) {
         Ok(()) if applied == 0 => {
             let _ = writeln!(err, "mrep: {}: none of its rows is new", Shown(name));
             files
@@ -118,13 +121,13 @@ fn concluded<'a, E: Write>(
 }
 
 /// Loads a copy into the database in a file, which is opened with its own filter.
-fn load_into<'a, I: Deliveries + Drop, W: Observer>(
+fn load_into<I: Deliveries + Drop, W: Observer>(
     rt: &HostRuntime,
-    db: &'a str,
+    db: &str,
     copy: FirstCopy<'_>,
     rows: I,
     observer: &mut W,
-) -> Result<LoadedFile<I::Error, File>, Failure<'a>> {
+) -> Result<LoadedFile<I::Error, File>, Failure> {
     let opening = opening(rt, db)?;
     let done = load_file(rt, db, Unknown, None, copy, rows, observer);
     opened(rt, db, opening, done)
@@ -141,24 +144,23 @@ fn report_end<E: Write>(rt: &HostRuntime, pulse: &Pulse, size: u64, applied: u64
 }
 
 /// What the end of a load comes to.
-fn outcome<'a>(db: &'a str, name: &'a str, end: LoadEnd<RowsFault>) -> Result<(), Failure<'a>> {
-    match end {
-        LoadEnd::Refused(Unloadable::Failed(cause)) => Err(Failure::Database { name: db, cause }),
-        LoadEnd::Refused(why) => Err(Failure::Unloadable { name: db, why }),
-        LoadEnd::Changed(ChangeEnd::AllGiven) => Ok(()),
-        LoadEnd::Changed(ChangeEnd::NotGiven(RowsFault::Copy(fault))) => Err(Failure::Copy {
-            name,
-            fault,
-        }),
-        LoadEnd::Changed(ChangeEnd::NotGiven(RowsFault::Changed)) => Err(Failure::Unusable {
-            name,
-            why: CHANGED,
-        }),
-        LoadEnd::Changed(ChangeEnd::Stopped(reason)) => Err(failure_of(db, reason)),
-        LoadEnd::Changed(ChangeEnd::TooMany) => Err(Failure::Memory),
-        LoadEnd::Changed(ChangeEnd::NotAdopted(cause)) => Err(Failure::Database {
-            name: db,
-            cause,
-        }),
-    }
+fn outcome(
+    alloc: Global,
+    db: &str,
+    name: &str,
+    end: LoadEnd<RowsFault>,
+) -> Result<(), Failure> {
+    Err(match end {
+        LoadEnd::Changed(ChangeEnd::AllGiven) => return Ok(()),
+        LoadEnd::Refused(why) => of_unloadable(alloc, db, &why),
+        LoadEnd::Changed(ChangeEnd::NotGiven(RowsFault::Copy(fault))) => {
+            of_copy(alloc, name, &fault)
+        }
+        LoadEnd::Changed(ChangeEnd::NotGiven(RowsFault::Changed)) => {
+            unusable(alloc, name, CHANGED)
+        }
+        LoadEnd::Changed(ChangeEnd::Stopped(reason)) => failure_of(alloc, db, reason),
+        LoadEnd::Changed(ChangeEnd::TooMany) => Failure::Memory,
+        LoadEnd::Changed(ChangeEnd::NotAdopted(cause)) => of_database(alloc, db, cause),
+    })
 }

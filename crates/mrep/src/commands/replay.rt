@@ -3,7 +3,7 @@
 ghost use Rattle.std.specs.Prelude.{◌≤◌, IfOk};
 
 use crate::database::open::{closed, opened, opening};
-use crate::report::failure::{Failure, MEMORY, write_failure};
+use crate::report::failure::{Failure, MEMORY, of_system, write_failure};
 use crate::report::status::{counted, status_after};
 use crate::report::wanted::{Wanted, waited};
 use binlog::Follow;
@@ -14,6 +14,7 @@ use replica::{Capture, Config, Halt, Observer, Replayed, Until, read_some};
 use reports::Watch;
 use sqlite::File;
 use sqlite_disk::Unknown;
+use std::alloc::Global;
 use std::io;
 use std::io::Write;
 use wire::LARGEST_PAYLOAD;
@@ -23,26 +24,26 @@ const SERVER_ID: u32 = 1;
 
 /// Reads streams into a database, each as one connection, and prints how each ended. Returns the first of their
 /// statuses that is not 0, or 0.
-pub fn replay<'a, W: Write, E: Write>(
+pub fn replay<W: Write, E: Write>(
     rt: &HostRuntime,
-    given: &ArgMatches<'a>,
+    given: &ArgMatches<'_>,
     out: &mut W,
     err: &mut E,
-) -> Result<u8, Failure<'a>>
+) -> Result<u8, Failure>
     ensures { IfOk result (λ status. status ≤ MEMORY) }
 {
     let streams = given.get_strs("STREAM").unwrap_or(&[]);
-    replay_streams(rt, Wanted::of(given)?, streams, out, err)
+    replay_streams(rt, Wanted::of(rt.alloc(), given)?, streams, out, err)
 }
 
 /// All streams are opened and their first bytes are read before the database is opened.
-fn replay_streams<'a, W: Write, E: Write>(
+fn replay_streams<W: Write, E: Write>(
     rt: &HostRuntime,
-    wanted: Wanted<'_, 'a>,
-    names: &[&'a str],
+    wanted: Wanted<'_, '_>,
+    names: &[&str],
     out: &mut W,
     err: &mut E,
-) -> Result<u8, Failure<'a>>
+) -> Result<u8, Failure>
     ensures { IfOk result (λ status. status ≤ MEMORY) }
 {
     let (done, stopped) = replay_reported(rt, &wanted, names, out, err)?;
@@ -54,23 +55,23 @@ fn replay_streams<'a, W: Write, E: Write>(
     let read = match read {
         Err(Halt::Reader(cause)) => {
             write_failure(stopped, err);
-            Err(unread(names, ends.len(), cause))
+            Err(unread(rt.alloc(), names, ends.len(), cause))
         }
         Ok(()) | Err(Halt::Observer) => stopped,
     };
-    let done = read.and(closed(wanted.db, files));
+    let done = read.and(closed(rt.alloc(), wanted.db, files));
     status_after(counted(&ends, &done), done, err)
 }
 
 /// Reads the streams, with the reports that are wanted. Returns what that has done, and whether it was stopped for a report, or
 /// memory ran out for what is waited for.
-fn replay_reported<'a, W: Write, E: Write>(
+fn replay_reported<W: Write, E: Write>(
     rt: &HostRuntime,
-    wanted: &Wanted<'_, 'a>,
-    names: &[&'a str],
+    wanted: &Wanted<'_, '_>,
+    names: &[&str],
     out: &mut W,
     err: &mut E,
-) -> Result<(Replayed<File>, Result<(), Failure<'a>>), Failure<'a>> {
+) -> Result<(Replayed<File>, Result<(), Failure>), Failure> {
     let reading = Reading::of(rt, wanted, names)?;
     let (pulse, reports) = wanted.reports(rt, reading.total, names, err)?;
     let watch = Watch::new(wanted.source(rt, names, 0), &pulse, reports, out, err);
@@ -78,16 +79,16 @@ fn replay_reported<'a, W: Write, E: Write>(
 }
 
 /// Reads the streams with an observer.
-fn replay_watched<'a, W: Write, E: Write>(
+fn replay_watched<W: Write, E: Write>(
     rt: &HostRuntime,
-    wanted: &Wanted<'_, 'a>,
+    wanted: &Wanted<'_, '_>,
     reading: Reading,
     watch: Watch<'_, W, E>,
-) -> Result<(Replayed<File>, Result<(), Failure<'a>>), Failure<'a>> {
+) -> Result<(Replayed<File>, Result<(), Failure>), Failure> {
     let (done, watch) = reading.replay_until(rt, wanted.db, watch);
     let ((done, is_out_of_memory), mut watch) = wanted.unless_failed(done, watch)?;
     watch.note_missing();
-    let stopped = wanted.stopped(watch.stop()).and(waited(is_out_of_memory));
+    let stopped = wanted.stopped(rt.alloc(), watch.stop()).and(waited(is_out_of_memory));
     Ok((done, stopped))
 }
 
@@ -104,11 +105,11 @@ struct Reading {
 
 impl Reading {
     /// Opens the streams, and reads a byte of each.
-    fn of<'a>(
+    fn of(
         rt: &HostRuntime,
-        wanted: &Wanted<'_, 'a>,
-        names: &[&'a str],
-    ) -> Result<Reading, Failure<'a>> {
+        wanted: &Wanted<'_, '_>,
+        names: &[&str],
+    ) -> Result<Reading, Failure> {
         let until = wanted.until(rt.alloc())?;
         let only = wanted.filter(rt.alloc())?;
         let (captures, total) = open_streams(rt, names)?;
@@ -126,12 +127,12 @@ impl Reading {
 
     /// Reads the streams, until all of a set is executed if there is one, and gives the observer back. Says whether memory ran
     /// out for what is waited for.
-    fn replay_until<'a, W: Observer>(
+    fn replay_until<W: Observer>(
         self,
         rt: &HostRuntime,
-        db: &'a str,
+        db: &str,
         mut observer: W,
-    ) -> (Result<(Replayed<File>, bool), Failure<'a>>, W) {
+    ) -> (Result<(Replayed<File>, bool), Failure>, W) {
         let Reading {
             only,
             config,
@@ -151,40 +152,40 @@ impl Reading {
 }
 
 /// What a replay has done, and whether memory ran out for what was waited for.
-fn with_wait<'a>(
-    done: Result<Replayed<File>, Failure<'a>>,
+fn with_wait(
+    done: Result<Replayed<File>, Failure>,
     is_out_of_memory: bool,
-) -> Result<(Replayed<File>, bool), Failure<'a>> {
+) -> Result<(Replayed<File>, bool), Failure> {
     Ok((done?, is_out_of_memory))
 }
 
 /// Reads captured connections into the database in a file.
-fn replay_in<'a, W: Observer>(
+fn replay_in<W: Observer>(
     rt: &HostRuntime,
-    db: &'a str,
+    db: &str,
     only: Option<&Follow>,
     config: &Config,
     captures: Vec<Capture<Input>>,
     observer: &mut W,
-) -> Result<Replayed<File>, Failure<'a>> {
+) -> Result<Replayed<File>, Failure> {
     let opening = opening(rt, db)?;
     let done = replica::replay(rt, db, Unknown, only, config, captures, observer);
     opened(rt, db, opening, done)
 }
 
 /// The failure of the reading of a stream, the one after this many.
-fn unread<'a>(names: &[&'a str], ended: usize, cause: io::Error) -> Failure<'a> {
+fn unread(alloc: Global, names: &[&str], ended: usize, cause: io::Error) -> Failure {
     match names.get(ended) {
-        Some(name) => Failure::File { name, cause },
+        Some(name) => of_system(alloc, name, cause),
         None => Failure::Output(cause),
     }
 }
 
 /// Opens the streams, in order, reads the first byte of each, and adds up their sizes, if all are files.
-fn open_streams<'a>(
+fn open_streams(
     rt: &HostRuntime,
-    names: &[&'a str],
-) -> Result<(Vec<Capture<Input>>, Option<u64>), Failure<'a>> {
+    names: &[&str],
+) -> Result<(Vec<Capture<Input>>, Option<u64>), Failure> {
     let mut streams = Vec::with_capacity(rt.alloc(), names.len())?;
     let mut total = Some(0u64);
     for name in names {
@@ -199,10 +200,10 @@ fn open_streams<'a>(
 }
 
 /// Opens a stream and reads its first byte. Whether it is a file, whose size is known.
-fn open_stream<'a>(rt: &HostRuntime, name: &'a str) -> Result<(Capture<Input>, bool), Failure<'a>> {
+fn open_stream(rt: &HostRuntime, name: &str) -> Result<(Capture<Input>, bool), Failure> {
     match begin_stream(rt, name) {
         Ok(opened) => Ok(opened),
-        Err(cause) => Err(Failure::File { name, cause }),
+        Err(cause) => Err(of_system(rt.alloc(), name, cause)),
     }
 }
 

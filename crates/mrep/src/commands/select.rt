@@ -3,7 +3,7 @@
 ghost use Rattle.std.specs.Prelude.{◌≡◌, IfOk};
 
 use crate::database::description::read_tables;
-use crate::report::failure::{DONE, Failure};
+use crate::report::failure::{DONE, Failure, of_tables, over_argument};
 use binlog::Follow;
 use clap::ArgMatches;
 use command_line::{parse_tables, word};
@@ -12,32 +12,33 @@ use std::io::Write;
 use typed_rows::{DescribedTables, TablesFault, write_select};
 
 /// Prints the statements for the tables that are named, or for all that are described if none is.
-pub fn select<'a, W: Write>(
+pub fn select<W: Write>(
     rt: &HostRuntime,
-    given: &ArgMatches<'a>,
+    given: &ArgMatches<'_>,
     out: &mut W,
-) -> Result<u8, Failure<'a>>
+) -> Result<u8, Failure>
     ensures { IfOk result (λ status. status ≡ DONE) }
 {
     let alloc = rt.alloc();
     let name = word(given, "columns");
-    let only = parse_tables(alloc, given.get_strs("only").unwrap_or(&[]))?;
+    let only = given.get_strs("only").unwrap_or(&[]);
+    let only = over_argument(alloc, parse_tables(alloc, only))?;
     let mut described = read_tables(rt, name)?;
     print(alloc, name, &mut described, &only, out)
 }
 
 /// Prints the statements for these of the tables that a file describes, or for all if none is named.
-fn print<'a, W: Write>(
+fn print<W: Write>(
     alloc: Global,
-    name: &'a str,
+    name: &str,
     described: &mut DescribedTables,
     only: &Follow,
     out: &mut W,
-) -> Result<u8, Failure<'a>>
+) -> Result<u8, Failure>
     ensures { IfOk result (λ status. status ≡ DONE) }
 {
     if let Err(fault) = keep(alloc, described, only) {
-        return Err(Failure::Tables { name, fault });
+        return Err(of_tables(alloc, name, &fault));
     }
     write_select(described, out)?;
     Ok(DONE)

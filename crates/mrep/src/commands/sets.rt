@@ -3,7 +3,7 @@
 ghost use Rattle.std.specs.Prelude.{◌≡◌, IfOk};
 
 use crate::database::open::{closed, list_in, opened, opening};
-use crate::report::failure::{DONE, Failure};
+use crate::report::failure::{DONE, Failure, of_database, over_argument};
 use clap::ArgMatches;
 use command_line::{parse_set, word};
 use formats::text_of;
@@ -15,62 +15,67 @@ use std::alloc::Global;
 use std::io::Write;
 
 /// Prints the executed set.
-pub fn gtids<'a, W: Write>(
+pub fn gtids<W: Write>(
     rt: &HostRuntime,
-    given: &ArgMatches<'a>,
+    given: &ArgMatches<'_>,
     out: &mut W,
-) -> Result<(), Failure<'a>> {
+) -> Result<(), Failure> {
     let mut executed = ExecutedSet::new(rt.alloc());
     list_in(rt, word(given, "db"), &mut executed)??;
     print_set(rt.alloc(), &executed.found(), out)
 }
 
 /// Prints what of a set is not executed.
-pub fn missing<'a, W: Write>(
+pub fn missing<W: Write>(
     rt: &HostRuntime,
-    given: &ArgMatches<'a>,
+    given: &ArgMatches<'_>,
     out: &mut W,
-) -> Result<(), Failure<'a>> {
-    let asked = parse_set(rt.alloc(), "SET", word(given, "SET"))?;
+) -> Result<(), Failure> {
+    let asked = asked(rt.alloc(), given)?;
     let mut missing = MissingSet::new(asked);
     list_in(rt, word(given, "db"), &mut missing)??;
     print_set(rt.alloc(), &missing.missing(), out)
 }
 
 /// Adds a set to the executed set, and prints what was new of it.
-pub fn adopt<'a, W: Write>(
+pub fn adopt<W: Write>(
     rt: &HostRuntime,
-    given: &ArgMatches<'a>,
+    given: &ArgMatches<'_>,
     out: &mut W,
-) -> Result<u8, Failure<'a>>
+) -> Result<u8, Failure>
     ensures { IfOk result (λ status. status ≡ DONE) }
 {
-    let asked = parse_set(rt.alloc(), "SET", word(given, "SET"))?;
+    let asked = asked(rt.alloc(), given)?;
     let added = adopt_in(rt, word(given, "db"), &asked)?;
     print_set(rt.alloc(), &added, out)?;
     Ok(DONE)
 }
 
+/// The set that the arguments name.
+fn asked(alloc: Global, given: &ArgMatches<'_>) -> Result<GtidSet, Failure> {
+    over_argument(alloc, parse_set(alloc, "SET", word(given, "SET")))
+}
+
 /// Adds a set to the executed set of the database in a file, which is opened with its own filter. Returns what was new of it.
-fn adopt_in<'a>(rt: &HostRuntime, db: &'a str, asked: &GtidSet) -> Result<GtidSet, Failure<'a>> {
+fn adopt_in(rt: &HostRuntime, db: &str, asked: &GtidSet) -> Result<GtidSet, Failure> {
     let opening = opening(rt, db)?;
     let done = adopt_file(rt, db, Unknown, asked);
     let AdoptedFile {
         added,
         closed: files,
     } = opened(rt, db, opening, done)?;
-    let files = closed(db, files);
+    let files = closed(rt.alloc(), db, files);
     match added {
         Ok(added) => files.map(|()| added),
         Err(cause) => {
             drop(files);
-            Err(Failure::Database { name: db, cause })
+            Err(of_database(rt.alloc(), db, cause))
         }
     }
 }
 
 /// Prints the text of a set.
-fn print_set<'a, W: Write>(alloc: Global, ids: &GtidSet, out: &mut W) -> Result<(), Failure<'a>> {
+fn print_set<W: Write>(alloc: Global, ids: &GtidSet, out: &mut W) -> Result<(), Failure> {
     let text = text_of(alloc, ids)?;
     writeln!(out, "{text}")?;
     Ok(())

@@ -2,7 +2,7 @@
 
 use crate::database::description::read_tables;
 use crate::database::printer::{Selection, print_rows, print_tallies};
-use crate::report::failure::Failure;
+use crate::report::failure::{Failure, of_argument, over_argument};
 use clap::ArgMatches;
 use command_line::{ArgumentFault, parse_encoding, parse_tables, word};
 use formats::{Chosen, format_of};
@@ -10,34 +10,37 @@ use std::io::Write;
 use typed_rows::DescribedTables;
 
 /// Prints the filter, and a line for each table with rows.
-pub fn tables<'a, W: Write>(
+pub fn tables<W: Write>(
     rt: &HostRuntime,
-    given: &ArgMatches<'a>,
+    given: &ArgMatches<'_>,
     out: &mut W,
-) -> Result<(), Failure<'a>> {
+) -> Result<(), Failure> {
     print_tallies(rt, word(given, "db"), out)
 }
 
 /// Prints the rows of the tables that the arguments name, in the format that they name.
-pub fn show<'a, W: Write, E: Write>(
+pub fn show<W: Write, E: Write>(
     rt: &HostRuntime,
-    given: &ArgMatches<'a>,
+    given: &ArgMatches<'_>,
     out: &mut W,
     err: &mut E,
-) -> Result<(), Failure<'a>> {
+) -> Result<(), Failure> {
+    let alloc = rt.alloc();
     let format = format_of(given.get_str("format"));
     let described = given.get_str("columns");
     if described.is_none() && format.needs_columns() {
-        return Err(ArgumentFault::Columns.into());
+        return Err(of_argument(alloc, ArgumentFault::Columns));
     }
-    let encoding = parse_encoding(given.get_str("bytes"), format, described.is_some())?;
-    let only = parse_tables(rt.alloc(), given.get_strs("only").unwrap_or(&[]))?;
+    let encoding = parse_encoding(given.get_str("bytes"), format, described.is_some());
+    let encoding = over_argument(alloc, encoding)?;
+    let only = given.get_strs("only").unwrap_or(&[]);
+    let only = over_argument(alloc, parse_tables(alloc, only))?;
     let described = match described {
         Some(name) => Some(read_tables(rt, name)?),
         None => None,
     };
     let selection = Selection {
-        chosen: Chosen::new(rt.alloc(), only)?,
+        chosen: Chosen::new(alloc, only)?,
         format,
         encoding,
     };
@@ -52,14 +55,14 @@ pub fn show<'a, W: Write, E: Write>(
 }
 
 /// Prints the rows of a database, and reports of which of the tables that are named there was none.
-pub fn show_rows<'a, W: Write, E: Write>(
+pub fn show_rows<W: Write, E: Write>(
     rt: &HostRuntime,
-    db: &'a str,
+    db: &str,
     selection: Selection,
     described: Option<&DescribedTables>,
     out: &mut W,
     err: &mut E,
-) -> Result<(), Failure<'a>> {
+) -> Result<(), Failure> {
     let chosen = print_rows(rt, db, selection, described, out)?;
     out.flush()?;
     let _ = chosen.note_missing(db, err);

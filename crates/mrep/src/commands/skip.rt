@@ -5,7 +5,7 @@ ghost use Rattle.gather.specs.View.{delivery_value};
 
 use crate::commands::clear::failure_of;
 use crate::database::open::{closed, opened, opening};
-use crate::report::failure::{DONE, Failure, MEMORY, of_skip};
+use crate::report::failure::{DONE, Failure, MEMORY, of_database, of_skip, over_argument};
 use clap::ArgMatches;
 use command_line::{parse_gtid, word};
 use gather::{Changes, Delivery};
@@ -25,10 +25,10 @@ pub fn skip<'a, W: Write>(
     rt: &'a HostRuntime,
     given: &ArgMatches<'a>,
     out: &mut W,
-) -> Result<u8, Failure<'a>>
+) -> Result<u8, Failure>
     ensures { IfOk result (λ status. status ≤ MEMORY) }
 {
-    let gtid = parse_gtid("G", word(given, "G"))?;
+    let gtid = over_argument(rt.alloc(), parse_gtid("G", word(given, "G")))?;
     if skip_in(rt, word(given, "db"), gtid, skip_feed(rt, given))? {
         writeln!(out, "Done")?;
     } else {
@@ -38,27 +38,29 @@ pub fn skip<'a, W: Write>(
 }
 
 /// Records a GTID as executed in the database in a file, and says so in the change feed. Returns whether it was new.
-fn skip_in<'a>(
+fn skip_in(
     rt: &HostRuntime,
-    db: &'a str,
+    db: &str,
     gtid: Gtid,
-    feed: Option<SkipFeed<'a>>,
-) -> Result<bool, Failure<'a>> {
+    feed: Option<SkipFeed<'_>>,
+) -> Result<bool, Failure> {
     let mut watch = SkipWatch::new(rt.alloc(), feed);
     let ChangedFile {
         applied,
         end,
         closed: files,
     } = record(rt, db, gtid, &mut watch)?;
-    let fed = fed(feed, watch.stop());
-    fed.and(outcome(db, end)).and(closed(db, files))?;
+    let alloc = rt.alloc();
+    let fed = fed(alloc, feed, watch.stop());
+    fed.and(outcome(alloc, db, end))
+        .and(closed(alloc, db, files))?;
     Ok(applied > 0)
 }
 
 /// Whether the change feed was written, if there is one.
-fn fed<'a>(feed: Option<SkipFeed<'a>>, stop: Option<SkipError>) -> Result<(), Failure<'a>> {
+fn fed(alloc: Global, feed: Option<SkipFeed<'_>>, stop: Option<SkipError>) -> Result<(), Failure> {
     match (feed, stop) {
-        (Some(feed), Some(error)) => Err(of_skip(feed.name, error)),
+        (Some(feed), Some(error)) => Err(of_skip(alloc, feed.name, error)),
         _ => Ok(()),
     }
 }
@@ -90,12 +92,12 @@ fn without_changes(alloc: Global, gtid: Gtid) -> Result<VecDeque<Delivery>, Allo
 }
 
 /// Applies a transaction without changes to the database in a file, which is opened with its own filter.
-fn record<'a, W: Observer>(
+fn record<W: Observer>(
     rt: &HostRuntime,
-    db: &'a str,
+    db: &str,
     gtid: Gtid,
     observer: &mut W,
-) -> Result<ChangedFile<Infallible, File>, Failure<'a>> {
+) -> Result<ChangedFile<Infallible, File>, Failure> {
     let list = without_changes(rt.alloc(), gtid)?;
     let none = GtidSet::new(rt.alloc());
     let opening = opening(rt, db)?;
@@ -104,12 +106,12 @@ fn record<'a, W: Observer>(
 }
 
 /// What the end of it comes to.
-fn outcome<'a>(db: &'a str, end: ChangeEnd<Infallible>) -> Result<(), Failure<'a>> {
+fn outcome(alloc: Global, db: &str, end: ChangeEnd<Infallible>) -> Result<(), Failure> {
     match end {
         ChangeEnd::AllGiven => Ok(()),
         ChangeEnd::NotGiven(never) => match never {},
-        ChangeEnd::Stopped(reason) => Err(failure_of(db, reason)),
+        ChangeEnd::Stopped(reason) => Err(failure_of(alloc, db, reason)),
         ChangeEnd::TooMany => Err(Failure::Memory),
-        ChangeEnd::NotAdopted(cause) => Err(Failure::Database { name: db, cause }),
+        ChangeEnd::NotAdopted(cause) => Err(of_database(alloc, db, cause)),
     }
 }

@@ -6,7 +6,7 @@ use crate::commands::note_if_made;
 use crate::commands::show::show_rows;
 use crate::database::description::read_tables;
 use crate::database::printer::Selection;
-use crate::report::failure::{DONE, Failure, MEMORY, REFUSED};
+use crate::report::failure::{DONE, Failure, MEMORY, REFUSED, of_system, of_tables, over_argument};
 use binlog::Follow;
 use clap::ArgMatches;
 use command_line::{parse_tables, word};
@@ -17,16 +17,17 @@ use typed_rows::DescribedTables;
 
 /// Prints the rows that one side lacks: `<` before those that the file has alone, `>` before those that the database has
 /// alone. The status is 0 if there are none, and 1 otherwise.
-pub fn verify<'a, W: Write, E: Write>(
+pub fn verify<W: Write, E: Write>(
     rt: &HostRuntime,
-    given: &ArgMatches<'a>,
+    given: &ArgMatches<'_>,
     out: &mut W,
     err: &mut E,
-) -> Result<u8, Failure<'a>>
+) -> Result<u8, Failure>
     ensures { IfOk result (λ status. status ≤ MEMORY) }
 {
     let (db, file) = (word(given, "db"), word(given, "ROWS"));
-    let only = parse_tables(rt.alloc(), &[word(given, "SCHEMA.TABLE")])?;
+    let only = parse_tables(rt.alloc(), &[word(given, "SCHEMA.TABLE")]);
+    let only = over_argument(rt.alloc(), only)?;
     let described = described(rt, word(given, "columns"), &only)?;
     let text = read_text(rt, file)?;
     let printed = printed(rt, db, only, described, out, err)?;
@@ -39,27 +40,27 @@ pub fn verify<'a, W: Write, E: Write>(
 }
 
 /// The tables whose description a file has. These must be among them.
-fn described<'a>(
+fn described(
     rt: &HostRuntime,
-    name: &'a str,
+    name: &str,
     only: &Follow,
-) -> Result<DescribedTables, Failure<'a>> {
+) -> Result<DescribedTables, Failure> {
     let described = read_tables(rt, name)?;
     match described.check(rt.alloc(), only) {
         Ok(()) => Ok(described),
-        Err(fault) => Err(Failure::Tables { name, fault }),
+        Err(fault) => Err(of_tables(rt.alloc(), name, &fault)),
     }
 }
 
 /// The rows of a table, as `mrep show` prints them.
-fn printed<'a, W: Write, E: Write>(
+fn printed<W: Write, E: Write>(
     rt: &HostRuntime,
-    db: &'a str,
+    db: &str,
     only: Follow,
     described: DescribedTables,
     out: &mut W,
     err: &mut E,
-) -> Result<Vec<u8>, Failure<'a>> {
+) -> Result<Vec<u8>, Failure> {
     let selection = Selection {
         chosen: Chosen::new(rt.alloc(), only)?,
         format: Format::Tsv,
@@ -78,7 +79,7 @@ fn printed<'a, W: Write, E: Write>(
 }
 
 /// All of a file, or of standard input.
-fn read_text<'a>(rt: &HostRuntime, name: &'a str) -> Result<Vec<u8>, Failure<'a>> {
+fn read_text(rt: &HostRuntime, name: &str) -> Result<Vec<u8>, Failure> {
     let mut text = Vec::new(rt.alloc());
     let read = match Input::open(rt, name) {
         Ok(mut input) => input.read_to_end(&mut text),
@@ -86,6 +87,6 @@ fn read_text<'a>(rt: &HostRuntime, name: &'a str) -> Result<Vec<u8>, Failure<'a>
     };
     match read {
         Ok(_) => Ok(text),
-        Err(cause) => Err(Failure::File { name, cause }),
+        Err(cause) => Err(of_system(rt.alloc(), name, cause)),
     }
 }

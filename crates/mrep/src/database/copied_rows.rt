@@ -1,13 +1,14 @@
 //! The file of a first copy.
 
 use crate::database::description::read_description;
-use crate::report::failure::{Failure, over_file};
+use crate::report::failure::{Failure, of_copy, of_system, over_argument, over_file, unusable};
 use clap::ArgMatches;
 use columns::Description;
 use command_line::{parse_digest, word};
 use files::{INPUT, Input, KeptInput};
 use first_copy::{CopiedRows, CopyFault, Summary, text_digest};
 use reports::{Metered, Pulse};
+use std::alloc::Global;
 use std::io;
 use std::io::{BufReader, Read};
 
@@ -31,17 +32,18 @@ pub struct CopyFile<'a> {
 impl<'a> CopyFile<'a> {
     /// The copy that the arguments name: a file, or standard input, which is kept beside the database. Where a SHA-1 is given,
     /// it has that one.
-    pub fn of(rt: &HostRuntime, given: &ArgMatches<'a>) -> Result<CopyFile<'a>, Failure<'a>> {
+    pub fn of(rt: &HostRuntime, given: &ArgMatches<'a>) -> Result<CopyFile<'a>, Failure> {
+        let alloc = rt.alloc();
         let (name, db) = (word(given, "COPY"), word(given, "db"));
         let digest = match given.get_str("sha1") {
-            Some(text) => Some(parse_digest("--sha1", text)?),
+            Some(text) => Some(over_argument(alloc, parse_digest("--sha1", text))?),
             None => None,
         };
         if name == INPUT && digest.is_none() {
-            return Err(Failure::Unusable { name, why: TWICE });
+            return Err(unusable(alloc, name, TWICE));
         }
         let kept = if name == INPUT {
-            Some(over_file(db, KeptInput::take(rt, db))?)
+            Some(over_file(alloc, db, KeptInput::take(rt, db))?)
         } else {
             None
         };
@@ -58,24 +60,22 @@ impl<'a> CopyFile<'a> {
     }
 
     /// Whether its SHA-1 is this one.
-    fn compare(&self, rt: &HostRuntime, digest: [u8; 20]) -> Result<(), Failure<'a>> {
+    fn compare(&self, rt: &HostRuntime, digest: [u8; 20]) -> Result<(), Failure> {
         let (mut input, _) = self.open(rt)?;
         let mut piece = vec![in rt.alloc(); 0; PIECE]?;
-        let found = self.used(text_digest(&mut input, &mut piece))?;
+        let found = self.used(rt.alloc(), text_digest(&mut input, &mut piece))?;
         if found == digest {
             return Ok(());
         }
-        Err(Failure::Unusable {
-            name: self.name,
-            why: OTHER,
-        })
+        Err(unusable(rt.alloc(), self.name, OTHER))
     }
 
     /// Reads the copy to its end. Returns how many bytes it has, too.
-    pub fn summary(&self, rt: &HostRuntime) -> Result<(Summary, u64), Failure<'a>> {
+    pub fn summary(&self, rt: &HostRuntime) -> Result<(Summary, u64), Failure> {
         let (input, size) = self.open(rt)?;
         let (description, reader) = self.begin(rt, input)?;
-        let summary = self.read(Summary::of(rt.alloc(), description, reader))?;
+        let alloc = rt.alloc();
+        let summary = self.read(alloc, Summary::of(alloc, description, reader))?;
         Ok((summary, size))
     }
 
@@ -85,23 +85,24 @@ impl<'a> CopyFile<'a> {
         rt: &'r HostRuntime,
         summary: &Summary,
         pulse: &'r Pulse,
-    ) -> Result<CopiedRows<BufReader<Metered<'r, Input>>>, Failure<'a>> {
+    ) -> Result<CopiedRows<BufReader<Metered<'r, Input>>>, Failure> {
         let (input, _) = self.open(rt)?;
         let (description, reader) = self.begin(rt, Metered::new(rt, input, pulse))?;
-        self.read(summary.rows(rt.alloc(), description, reader))
+        let alloc = rt.alloc();
+        self.read(alloc, summary.rows(alloc, description, reader))
     }
 
     /// Opens what has it. Returns how many bytes it has, too.
-    fn open(&self, rt: &HostRuntime) -> Result<(Input, u64), Failure<'a>> {
-        let name = self.name;
+    fn open(&self, rt: &HostRuntime) -> Result<(Input, u64), Failure> {
+        let (alloc, name) = (rt.alloc(), self.name);
         if let Some(kept) = &self.kept {
-            let input = self.used(kept.input())?;
+            let input = self.used(alloc, kept.input())?;
             return Ok((input, kept.size()));
         }
-        let input = self.used(Input::open(rt, name))?;
-        match self.used(input.size())? {
+        let input = self.used(alloc, Input::open(rt, name))?;
+        match self.used(alloc, input.size())? {
             Some(size) => Ok((input, size)),
-            None => Err(Failure::Unusable { name, why: TWICE }),
+            None => Err(unusable(alloc, name, TWICE)),
         }
     }
 
@@ -110,31 +111,26 @@ impl<'a> CopyFile<'a> {
         &self,
         rt: &HostRuntime,
         input: R,
-    ) -> Result<(Description, BufReader<R>), Failure<'a>> {
-        let reader = self.used(BufReader::new(rt.alloc(), input))?;
+    ) -> Result<(Description, BufReader<R>), Failure> {
+        let alloc = rt.alloc();
+        let reader = self.used(alloc, BufReader::new(alloc, input))?;
         let description = read_description(rt, self.columns)?;
         Ok((description, reader))
     }
 
     /// What the system answered over it, whose failure names it.
-    fn used<T: Drop>(&self, done: io::Result<T>) -> Result<T, Failure<'a>> {
+    fn used<T: Drop>(&self, alloc: Global, done: io::Result<T>) -> Result<T, Failure> {
         match done {
             Ok(value) => Ok(value),
-            Err(cause) => Err(Failure::File {
-                name: self.name,
-                cause,
-            }),
+            Err(cause) => Err(of_system(alloc, self.name, cause)),
         }
     }
 
     /// What was read of it, whose failure names it.
-    fn read<T: Drop>(&self, read: Result<T, CopyFault>) -> Result<T, Failure<'a>> {
+    fn read<T: Drop>(&self, alloc: Global, read: Result<T, CopyFault>) -> Result<T, Failure> {
         match read {
             Ok(value) => Ok(value),
-            Err(fault) => Err(Failure::Copy {
-                name: self.name,
-                fault,
-            }),
+            Err(fault) => Err(of_copy(alloc, self.name, &fault)),
         }
     }
 }

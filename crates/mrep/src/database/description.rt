@@ -1,24 +1,24 @@
 //! The description of columns that a command is given.
 
-use crate::report::failure::Failure;
+use crate::report::failure::{Failure, of_description, of_system};
 use columns::Description;
 use std::fs;
 use typed_rows::DescribedTables;
 
 /// The tables whose description a file has.
-pub fn read_tables<'a>(rt: &HostRuntime, name: &'a str) -> Result<DescribedTables, Failure<'a>> {
+pub fn read_tables(rt: &HostRuntime, name: &str) -> Result<DescribedTables, Failure> {
     let description = read_description(rt, name)?;
     Ok(DescribedTables::new(description))
 }
 
 /// The description that a file has.
-pub fn read_description<'a>(rt: &HostRuntime, name: &'a str) -> Result<Description, Failure<'a>> {
+pub fn read_description(rt: &HostRuntime, name: &str) -> Result<Description, Failure> {
     let text = match fs::read(rt, name) {
         Ok(text) => text,
-        Err(cause) => return Err(Failure::File { name, cause }),
+        Err(cause) => return Err(of_system(rt.alloc(), name, cause)),
     };
     match Description::read(rt.alloc(), &text) {
         Ok(description) => Ok(description),
-        Err(fault) => Err(Failure::Description { name, fault }),
+        Err(fault) => Err(of_description(rt.alloc(), name, fault)),
     }
 }

@@ -1,7 +1,7 @@
 //! The rows of a database as those of tables of another.
 
 use crate::database::open::{listed, unopened_copy};
-use crate::report::failure::Failure;
+use crate::report::failure::{Failure, of_database, of_misfit};
 use binlog::Follow;
 use formats::{Chosen, Shown};
 use gtid::GtidSet;
@@ -16,8 +16,8 @@ use typed_rows::{Export, ExportedRows, TableError, Tables, note_left_out};
 
 /// A copy of a database: its path, and the names of the file that is made and of the database in failures.
 #[derive(Clone, Copy)]
-pub struct Source<'p, 'a> {
-    pub copy: &'p str,
+pub struct Source<'a> {
+    pub copy: &'a str,
     pub to: &'a str,
     pub db: &'a str,
 }
@@ -25,12 +25,12 @@ pub struct Source<'p, 'a> {
 /// Makes tables of a new database in an empty file, whose path is `part`, with the rows of a copy of a database, and closes both.
 /// Returns what is to be reported: that the database has no transaction, which tables its filter leaves out, and of which that are
 /// named there was no row.
-pub fn export_rows<'a>(
+pub fn export_rows(
     rt: &HostRuntime,
-    source: Source<'_, 'a>,
+    source: Source<'_>,
     part: &str,
     export: Export,
-) -> Result<Vec<u8>, Failure<'a>> {
+) -> Result<Vec<u8>, Failure> {
     let Export { tables, chosen } = export;
     let found = fill(rt, source, part, &tables, chosen)?;
     let mut notes = Vec::new(rt.alloc());
@@ -39,46 +39,48 @@ pub fn export_rows<'a>(
 }
 
 /// Makes tables of a new database in an empty file, with the rows of a copy of a database, and closes both.
-fn fill<'a>(
+fn fill(
     rt: &HostRuntime,
-    source: Source<'_, 'a>,
+    source: Source<'_>,
     part: &str,
     tables: &Tables,
     chosen: Chosen,
-) -> Result<Found, Failure<'a>> {
+) -> Result<Found, Failure> {
     let mut conn = match Connection::open(rt, part) {
         Ok(conn) => conn,
-        Err(cause) => return Err(of_sqlite(source.to, cause)),
+        Err(cause) => return Err(of_sqlite(rt.alloc(), source.to, cause)),
     };
     let found = add_rows(rt, source, tables, chosen, &mut conn);
     match conn.close() {
         Ok(()) => found,
-        Err(cause) => found.and(Err(of_sqlite(source.to, cause))),
+        Err(cause) => found.and(Err(of_sqlite(rt.alloc(), source.to, cause))),
     }
 }
 
 /// Makes tables and adds the rows of a copy of a database to them. It is generic in the storage, which costs a check less than
 /// the one of a file.
-fn add_rows<'a, T: Alter>(
+fn add_rows<T: Alter>(
     rt: &HostRuntime,
-    source: Source<'_, 'a>,
+    source: Source<'_>,
     tables: &Tables,
     chosen: Chosen,
     conn: &mut Connection<T>,
-) -> Result<Found, Failure<'a>> {
+) -> Result<Found, Failure> {
+    let alloc = rt.alloc();
     let Source { to, db, .. } = source;
     if !conn.is_autocommit() {
-        return Err(of_sqlite(to, Error::SqliteFailure(ErrorCode::TransactionState)));
+        let cause = Error::SqliteFailure(ErrorCode::TransactionState);
+        return Err(of_sqlite(alloc, to, cause));
     }
-    let rows = match ExportedRows::begin(rt.alloc(), tables, chosen, conn) {
+    let rows = match ExportedRows::begin(alloc, tables, chosen, conn) {
         Ok(rows) => rows,
-        Err(cause) => return Err(of_sqlite(to, cause)),
+        Err(cause) => return Err(of_sqlite(alloc, to, cause)),
     };
     let mut added = Added {
-        alloc: rt.alloc(),
+        alloc,
         rows,
         is_empty: true,
-        following: Follow::all(rt.alloc()),
+        following: Follow::all(alloc),
     };
     give_rows(rt, source, &mut added)?;
     let Added {
@@ -93,24 +95,24 @@ fn add_rows<'a, T: Alter>(
             is_empty,
             following,
         }),
-        Err(error) => Err(of_tables([db, to], error)),
+        Err(error) => Err(of_table(alloc, [db, to], error)),
     }
 }
 
 /// Gives a copy of a database to what adds its rows to tables.
-fn give_rows<'a, T: Alter>(
+fn give_rows<T: Alter>(
     rt: &HostRuntime,
-    source: Source<'_, 'a>,
+    source: Source<'_>,
     added: &mut Added<'_, '_, T>,
-) -> Result<(), Failure<'a>> {
+) -> Result<(), Failure> {
     let Source { copy, to, db } = source;
     let done = match list_file(rt, copy, Unknown, added) {
         Ok(done) => done,
         Err(unopened) => return Err(unopened_copy(rt, copy, to, db, unopened)),
     };
-    match listed(db, to, done)? {
+    match listed(rt.alloc(), db, to, done)? {
         Ok(()) => Ok(()),
-        Err(error) => Err(of_tables([db, to], error)),
+        Err(error) => Err(of_table(rt.alloc(), [db, to], error)),
     }
 }
 
@@ -171,21 +173,18 @@ impl<T: Alter> Lister for Added<'_, '_, T> {
 }
 
 /// The failure of adding rows to tables. The names are those of the database and of the file that is made.
-fn of_tables<'a>(names: [&'a str; 2], error: TableError) -> Failure<'a> {
+fn of_table(alloc: Global, names: [&str; 2], error: TableError) -> Failure {
     let [name, to] = names;
     match error {
-        TableError::Database(cause) => of_sqlite(to, cause),
-        TableError::Misfit(misfit) => Failure::Misfit { name, misfit },
+        TableError::Database(cause) => of_sqlite(alloc, to, cause),
+        TableError::Misfit(misfit) => of_misfit(alloc, name, &misfit),
     }
 }
 
 /// The failure of the database that is made.
-fn of_sqlite<'a>(name: &'a str, cause: Error) -> Failure<'a> {
+fn of_sqlite(alloc: Global, name: &str, cause: Error) -> Failure {
     match cause {
         Error::SqliteFailure(ErrorCode::OutOfMemory) => Failure::Memory,
-        _ => Failure::Database {
-            name,
-            cause: StoreFault::Database(cause),
-        },
+        _ => of_database(alloc, name, StoreFault::Database(cause)),
     }
 }

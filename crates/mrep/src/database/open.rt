@@ -1,6 +1,6 @@
 //! Opening and closing a database file.
 
-use crate::report::failure::{Failure, of_file, over_file};
+use crate::report::failure::{Failure, of_damage, of_database, of_file, over_file, unusable};
 use files::{LOCKED, Opening, is_file, missing_wal, opening_fault, reading_fault, remove_unused};
 use replica::{ListedFile, Lister, Unopened, close_file, list_file, open_file};
 use sqlite::{Alter, Connection, Error, ErrorCode, File, FileStore, Files};
@@ -16,17 +16,17 @@ const JOURNAL: &str = "sqlite3 has left a journal beside it: open it once with s
 
 /// A database file: its path, and its names in failures.
 #[derive(Clone, Copy)]
-struct Place<'p, 'a> {
-    path: &'p str,
+struct Place<'a> {
+    path: &'a str,
     /// The name where the file cannot be used.
     file: &'a str,
     /// The name where what it holds cannot be used.
     content: &'a str,
 }
 
-impl<'a> Place<'a, 'a> {
+impl<'a> Place<'a> {
     /// A file that is given by this name.
-    fn named(name: &'a str) -> Place<'a, 'a> {
+    fn named(name: &'a str) -> Place<'a> {
         Place {
             path: name,
             file: name,
@@ -37,56 +37,57 @@ impl<'a> Place<'a, 'a> {
 
 /// Gives the database in a file, which is made if it does not exist, with its own filter, to a lister, and closes it. Where that
 /// ends with an error of the lister, that is the result.
-pub fn list_in<'a, L: Lister>(
+pub fn list_in<L: Lister>(
     rt: &HostRuntime,
-    name: &'a str,
+    name: &str,
     lister: &mut L,
-) -> Result<Result<(), L::Error>, Failure<'a>> {
+) -> Result<Result<(), L::Error>, Failure> {
     let opening = opening(rt, name)?;
     let done = list_file(rt, name, Unknown, lister);
-    listed(name, name, opened(rt, name, opening, done)?)
+    listed(rt.alloc(), name, name, opened(rt, name, opening, done)?)
 }
 
 /// What giving a database to a lister has come to. A failure of the list names the database, and one of closing it, which comes
 /// second, the file.
-pub fn listed<'a, E: Drop>(
-    db: &'a str,
-    file: &'a str,
+pub fn listed<E: Drop>(
+    alloc: Global,
+    db: &str,
+    file: &str,
     done: ListedFile<E, File>,
-) -> Result<Result<(), E>, Failure<'a>> {
+) -> Result<Result<(), E>, Failure> {
     let ListedFile {
         listed,
         closed: files,
     } = done;
     let listed = match listed {
         Ok(()) => Ok(()),
-        Err(ListError::Store(cause)) => Err(Failure::Database { name: db, cause }),
+        Err(ListError::Store(cause)) => Err(of_database(alloc, db, cause)),
         Err(ListError::Visitor(error)) => {
-            drop(closed(file, files));
+            drop(closed(alloc, file, files));
             return Ok(Err(error));
         }
     };
-    listed.and(closed(file, files))?;
+    listed.and(closed(alloc, file, files))?;
     Ok(Ok(()))
 }
 
 /// Opens and closes a copy of a database in a file, which copies its WAL file back into it. A failure names the file that is
 /// to be made, or the database where that is what cannot be used.
-pub fn test<'a>(rt: &HostRuntime, copy: &str, to: &'a str, db: &'a str) -> Result<(), Failure<'a>> {
+pub fn test(rt: &HostRuntime, copy: &str, to: &str, db: &str) -> Result<(), Failure> {
     match open_file(rt, copy, Unknown, 0, None) {
-        Ok(store) => closed(to, close_file(store)),
+        Ok(store) => closed(rt.alloc(), to, close_file(store)),
         Err(unopened) => Err(unopened_copy(rt, copy, to, db, unopened)),
     }
 }
 
 /// The failure of a copy of a database that could not be opened, whose files are closed.
-pub fn unopened_copy<'a>(
+pub fn unopened_copy(
     rt: &HostRuntime,
     copy: &str,
-    to: &'a str,
-    db: &'a str,
+    to: &str,
+    db: &str,
     unopened: Unopened<File>,
-) -> Failure<'a> {
+) -> Failure {
     let place = Place {
         path: copy,
         file: to,
@@ -96,18 +97,18 @@ pub fn unopened_copy<'a>(
 }
 
 /// Takes the name of a database for one that is opened by it next.
-pub fn opening<'a>(rt: &HostRuntime, name: &'a str) -> Result<Opening, Failure<'a>> {
-    over_file(name, Opening::begin(rt, name))
+pub fn opening(rt: &HostRuntime, name: &str) -> Result<Opening, Failure> {
+    over_file(rt.alloc(), name, Opening::begin(rt, name))
 }
 
 /// What was done with the database of this name, whose opening was begun so. If it could not be opened, its files are closed and
 /// the name is given up.
-pub fn opened<'a, T>(
+pub fn opened<T>(
     rt: &HostRuntime,
-    name: &'a str,
+    name: &str,
     opening: Opening,
     done: Result<T, Unopened<File>>,
-) -> Result<T, Failure<'a>> {
+) -> Result<T, Failure> {
     let unopened = match done {
         Ok(done) => return Ok(done),
         Err(unopened) => unopened,
@@ -120,7 +121,7 @@ pub fn opened<'a, T>(
 
 /// Locks a file that is there as an open database is locked, until the result is dropped. Nothing is written to it. A file
 /// that this process may not open is not locked.
-pub fn lock<'a>(rt: &HostRuntime, name: &'a str) -> Result<Option<Files<File>>, Failure<'a>> {
+pub fn lock(rt: &HostRuntime, name: &str) -> Result<Option<Files<File>>, Failure> {
     if !is_file(rt, name) {
         return Ok(None);
     }
@@ -130,8 +131,8 @@ pub fn lock<'a>(rt: &HostRuntime, name: &'a str) -> Result<Option<Files<File>>, 
             remove_unused(rt, wal);
             Ok(Some(files))
         }
-        Err(OpenError::Busy) => Err(Failure::Unusable { name, why: LOCKED }),
-        Err(OpenError::HotJournal) => Err(Failure::Unusable { name, why: JOURNAL }),
+        Err(OpenError::Busy) => Err(unusable(rt.alloc(), name, LOCKED)),
+        Err(OpenError::HotJournal) => Err(unusable(rt.alloc(), name, JOURNAL)),
         Err(OpenError::OutOfMemory) => Err(Failure::Memory),
         Err(OpenError::Io(_)) => Ok(None),
     }
@@ -185,7 +186,8 @@ fn cause_in<S: Alter>(alloc: Global, fault: StoreFault, conn: &mut Connection<S>
 }
 
 /// The failure of a database file that could not be opened.
-fn refusal<'a>(rt: &HostRuntime, place: Place<'_, 'a>, cause: Cause) -> Failure<'a> {
+fn refusal(rt: &HostRuntime, place: Place<'_>, cause: Cause) -> Failure {
+    let alloc = rt.alloc();
     let Place {
         path,
         file,
@@ -193,39 +195,28 @@ fn refusal<'a>(rt: &HostRuntime, place: Place<'_, 'a>, cause: Cause) -> Failure<
     } = place;
     let cause = match cause {
         Cause::Fault(fault) => fault,
-        Cause::Damage(damage) => {
-            return Failure::Damaged {
-                name: content,
-                damage,
-            };
-        }
+        Cause::Damage(damage) => return of_damage(alloc, content, &damage),
     };
     match cause {
         StoreFault::Database(Error::SqliteFailure(code)) => match code {
-            ErrorCode::CannotOpen => of_file(file, opening_fault(rt, path)),
-            ErrorCode::DatabaseBusy => Failure::Unusable {
-                name: file,
-                why: LOCKED,
-            },
-            ErrorCode::NotADatabase | ErrorCode::DatabaseCorrupt => Failure::Unusable {
-                name: content,
-                why: reading_fault(rt, path),
-            },
-            _ => Failure::Database { name: file, cause },
+            ErrorCode::CannotOpen => of_file(alloc, file, opening_fault(rt, path)),
+            ErrorCode::DatabaseBusy => unusable(alloc, file, LOCKED),
+            ErrorCode::NotADatabase | ErrorCode::DatabaseCorrupt => {
+                unusable(alloc, content, reading_fault(rt, path))
+            }
+            _ => of_database(alloc, file, cause),
         },
-        StoreFault::Database(_) | StoreFault::Memory => Failure::Database { name: file, cause },
-        _ => Failure::Database {
-            name: content,
-            cause,
-        },
+        StoreFault::Database(_) | StoreFault::Memory => of_database(alloc, file, cause),
+        _ => of_database(alloc, content, cause),
     }
 }
 
 /// Whether the files were closed.
-pub fn closed<'a>(
-    name: &'a str,
+pub fn closed(
+    alloc: Global,
+    name: &str,
     files: Result<Files<File>, (Error, FileOf)>,
-) -> Result<(), Failure<'a>> {
+) -> Result<(), Failure> {
     match files {
         Ok(files) => {
             drop(files);
@@ -233,10 +224,7 @@ pub fn closed<'a>(
         }
         Err((cause, left)) => {
             drop(left.close());
-            Err(Failure::Database {
-                name,
-                cause: StoreFault::Database(cause),
-            })
+            Err(of_database(alloc, name, StoreFault::Database(cause)))
         }
     }
 }

@@ -24,13 +24,13 @@ pub struct Selection {
 
 /// Prints rows, with the number of copies or as often as there are, those of described tables with names and types if there are any.
 /// Returns of which of the tables there was a row.
-pub fn print_rows<'a, W: Write>(
+pub fn print_rows<W: Write>(
     rt: &HostRuntime,
-    name: &'a str,
+    name: &str,
     mut selection: Selection,
     described: Option<&DescribedTables>,
     out: &mut W,
-) -> Result<Chosen, Failure<'a>> {
+) -> Result<Chosen, Failure> {
     let printed = match (described, selection.format) {
         (Some(tables), _) => print_typed(rt, name, tables, &mut selection, out),
         (None, Format::Json) => print_objects(rt, name, &mut selection, out),
@@ -44,36 +44,36 @@ pub fn print_rows<'a, W: Write>(
 }
 
 /// Prints a line of text for each row.
-fn print_lines<'a, W: Write>(
+fn print_lines<W: Write>(
     rt: &HostRuntime,
-    name: &'a str,
+    name: &str,
     chosen: Chosen,
     out: &mut W,
-) -> Result<Chosen, Failure<'a>> {
+) -> Result<Chosen, Failure> {
     let mut rows = TextRows::new(chosen, out);
     list_in(rt, name, &mut rows)??;
     Ok(rows.chosen())
 }
 
 /// Prints a JSON object for each row.
-fn print_objects<'a, W: Write>(
+fn print_objects<W: Write>(
     rt: &HostRuntime,
-    name: &'a str,
+    name: &str,
     selection: &mut Selection,
     out: &mut W,
-) -> Result<(), Failure<'a>> {
+) -> Result<(), Failure> {
     let mut objects = Objects::new(rt.alloc(), selection, out);
     list_in(rt, name, &mut objects)??;
     Ok(())
 }
 
 /// Prints a record for each row.
-fn print_records<'a, W: Write>(
+fn print_records<W: Write>(
     rt: &HostRuntime,
-    name: &'a str,
+    name: &str,
     selection: Selection,
     out: &mut W,
-) -> Result<Chosen, Failure<'a>> {
+) -> Result<Chosen, Failure> {
     let mut all = CsvRows {
         alloc: rt.alloc(),
         selection,
@@ -90,11 +90,11 @@ fn print_records<'a, W: Write>(
 }
 
 /// Prints the filter, and a line for each table with rows.
-pub fn print_tallies<'a, W: Write>(
+pub fn print_tallies<W: Write>(
     rt: &HostRuntime,
-    name: &'a str,
+    name: &str,
     out: &mut W,
-) -> Result<(), Failure<'a>> {
+) -> Result<(), Failure> {
     let mut counts = Counts {
         tallies: Tallies::new(rt.alloc(), out),
     };
@@ -104,17 +104,17 @@ pub fn print_tallies<'a, W: Write>(
 }
 
 /// Prints rows whose columns are described.
-fn print_typed<'a, W: Write>(
+fn print_typed<W: Write>(
     rt: &HostRuntime,
-    name: &'a str,
+    name: &str,
     tables: &DescribedTables,
     selection: &mut Selection,
     out: &mut W,
-) -> Result<(), Failure<'a>> {
+) -> Result<(), Failure> {
     let mut all = Typed::new(rt.alloc(), tables, selection, out);
     match list_in(rt, name, &mut all)? {
         Ok(()) => Ok(()),
-        Err(error) => Err(of_row(name, error)),
+        Err(error) => Err(of_row(rt.alloc(), name, error)),
     }
 }
 

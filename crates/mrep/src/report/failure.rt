@@ -1,8 +1,12 @@
-//! Why a command failed, apart from what its data says.
+//! Why a command failed, apart from what its data says: an exit status and a message.
+//!
+//! The message is made where the failure is found. So a failure holds nothing of what it is about, and has one part that is
+//! dropped. Where memory runs out for its message, memory is what failed.
 
-ghost use Rattle.std.specs.Prelude.{◌≡◌, ◌≤◌};
-ghost use Rattle.mrep.specs.Failure.{IsCopyStatus, IsFileStatus, IsStatus, database_status, description_status};
+ghost use Rattle.std.specs.Prelude.{◌≡◌, ◌≤◌, Err, IfOk};
+ghost use Rattle.mrep.specs.Failure.{IsCopyStatus, IsFileStatus, IsStatus, IsTold, IsWordsStatus, Tells, argument_status, database_status, description_status, kind_status, tables_status, unloadable_status};
 ghost use Rattle.mrep.specs.declared.report.failure.Failure.TheVariants as variants;
+ghost use Rattle.mrep.specs.declared.report.failure.Kind.TheVariants as kind;
 
 use clap::error::ErrorKind;
 use columns::{DescriptionFault, LineFault};
@@ -11,9 +15,10 @@ use files::FileFault;
 use first_copy::CopyFault;
 use formats::{Shown, write_named};
 use gtid::GtidFault;
-use replica::{ConfigFault, NoMemory, Unloadable};
+use replica::{NoMemory, Unloadable};
 use reports::write_unloadable;
-use std::alloc::{AllocError, AllocFailed};
+use std::alloc::{AllocError, AllocFailed, Global};
+use std::fmt::Display;
 use std::io;
 use std::io::Write;
 use store::{Damage, StoreFault};
@@ -30,260 +35,349 @@ pub const FILES: u8 = 3;
 /// Out of memory.
 pub const MEMORY: u8 = 4;
 
-/// Why a command failed.
-#[derive(Drop)]
-pub enum Failure<'a> {
-    /// The arguments are not those of a command.
-    Words(clap::Error),
-    /// The value of an argument is none.
-    Argument(ArgumentFault<'a>),
-    /// The file of this name is no description of columns.
-    Description {
-        name: &'a str,
-        fault: DescriptionFault,
-    },
-    /// No tables are made of the description in the file of this name.
-    Tables {
-        name: &'a str,
-        fault: TablesFault,
-    },
-    /// This argument is not a user name.
-    User {
-        word: &'a str,
-        cause: ConfigFault,
-    },
-    /// The file of this name could not be opened or read.
-    File {
-        name: &'a str,
-        cause: io::Error,
-    },
-    /// The host of this name was not found or could not be reached.
-    Host {
-        name: &'a str,
-        cause: io::Error,
-    },
-    /// The database file of this name could not be opened, or the database failed.
-    Database {
-        name: &'a str,
-        cause: StoreFault,
-    },
-    /// The tables of the database file of this name are damaged.
-    Damaged {
-        name: &'a str,
-        damage: Damage,
-    },
-    /// The database file of this name cannot be used, for this reason.
-    Unusable {
-        name: &'a str,
-        why: &'static str,
-    },
-    /// The file of this name is no first copy of tables, or cannot be read.
-    Copy {
-        name: &'a str,
-        fault: CopyFault,
-    },
-    /// A first copy of tables may not be loaded into the database of this name.
-    Unloadable {
-        name: &'a str,
-        why: Unloadable,
-    },
-    /// A row of the database of this name does not fit the description of its columns.
-    Misfit {
-        name: &'a str,
-        misfit: Misfit,
-    },
-    /// The output could not be written.
-    Output(io::Error),
-    /// An allocation was refused.
+/// What has failed, by which the exit status goes.
+#[derive(Clone, Copy, PartialEq, Eq)]
+pub enum Kind {
+    /// The arguments, or the description of the columns.
+    Usage,
+    /// The data is refused.
+    Refused,
+    /// A row of the database does not fit the description of its columns.
+    Misfit,
+    /// A file, a host or the database.
+    Files,
+    /// Memory, for what the message names.
     Memory,
 }
 
-fn status_of(cause: &io::Error) -> u8
-    ensures status { IsFileStatus cause.now result }
-    ensures range { result ≤ MEMORY }
-{
-    if cause.kind() == io::ErrorKind::OutOfMemory {
-        MEMORY
-    } else {
-        FILES
+/// Why a command failed.
+#[derive(Drop)]
+pub enum Failure {
+    /// An allocation was refused.
+    Memory,
+    /// The output could not be written.
+    Output(io::Error),
+    /// Anything else, with its message, which is a line or more.
+    Told { kind: Kind, message: Vec<u8> },
+}
+
+impl Kind {
+    /// The exit status.
+    fn status(self) -> u8
+        ensures status { result ≡ kind_status self }
+        ensures range { result ≤ MEMORY }
+    {
+        match self {
+            Kind::Usage => USAGE,
+            Kind::Refused | Kind::Misfit => REFUSED,
+            Kind::Files => FILES,
+            Kind::Memory => MEMORY,
+        }
     }
 }
 
-/// The status of a fault of opening the store or of reading its rows.
-fn database_status(cause: StoreFault) -> u8
-    ensures status { result ≡ database_status cause }
-    ensures range { result ≤ MEMORY }
+/// Of a file, a host or the output.
+fn kind_of(cause: &io::Error) -> Kind
+    ensures status { IsFileStatus cause.now (kind_status result) }
+{
+    if cause.kind() == io::ErrorKind::OutOfMemory {
+        Kind::Memory
+    } else {
+        Kind::Files
+    }
+}
+
+/// Of opening a store, or of reading its rows.
+fn database_kind(cause: StoreFault) -> Kind
+    ensures status { kind_status result ≡ database_status cause }
 {
     match cause {
-        StoreFault::Memory => MEMORY,
+        StoreFault::Memory => Kind::Memory,
         StoreFault::NoSuchRow(_)
         | StoreFault::CountFull(_)
         | StoreFault::Database(_)
         | StoreFault::Damaged
         | StoreFault::Layout(_)
         | StoreFault::Broken
-        | StoreFault::Follows => FILES,
+        | StoreFault::Follows => Kind::Files,
     }
 }
 
-/// The status of a file that is no description of columns.
-fn description_status(fault: DescriptionFault) -> u8
-    ensures status { result ≡ description_status fault.fault }
-    ensures range { result ≤ MEMORY }
+/// Of a file that is no description of columns.
+fn description_kind(fault: DescriptionFault) -> Kind
+    ensures status { kind_status result ≡ description_status fault.fault }
 {
     match fault.fault {
-        LineFault::Memory => MEMORY,
-        _ => USAGE,
+        LineFault::Memory => Kind::Memory,
+        _ => Kind::Usage,
     }
 }
 
-/// The status of a file that is no first copy of tables, or cannot be read.
-fn copy_status(fault: &CopyFault) -> u8
-    ensures status { IsCopyStatus fault.now result }
-    ensures range { result ≤ MEMORY }
+/// Of a file that is no first copy of tables, or cannot be read.
+fn copy_kind(fault: &CopyFault) -> Kind
+    ensures status { IsCopyStatus fault.now (kind_status result) }
 {
     match fault {
-        CopyFault::Reader { error, .. } => status_of(error),
-        CopyFault::Memory | CopyFault::Executed(GtidFault::Memory) => MEMORY,
-        _ => REFUSED,
+        CopyFault::Reader { error, .. } => kind_of(error),
+        CopyFault::Memory | CopyFault::Executed(GtidFault::Memory) => Kind::Memory,
+        _ => Kind::Refused,
     }
 }
 
-impl Failure<'_> {
+/// Of words that are no command line.
+fn words_kind(error: &clap::Error) -> Kind
+    ensures status { IsWordsStatus error.now (kind_status result) }
+{
+    if error.kind() == ErrorKind::OutOfMemory {
+        Kind::Memory
+    } else {
+        Kind::Usage
+    }
+}
+
+/// Of an argument.
+fn argument_kind(fault: &ArgumentFault<'_>) -> Kind
+    ensures status { kind_status result ≡ argument_status fault.now }
+{
+    match fault {
+        ArgumentFault::Memory => Kind::Memory,
+        _ => Kind::Usage,
+    }
+}
+
+/// Of a description of which no tables are made.
+fn tables_kind(fault: &TablesFault) -> Kind
+    ensures status { kind_status result ≡ tables_status fault.now }
+{
+    match fault {
+        TablesFault::Memory => Kind::Memory,
+        _ => Kind::Usage,
+    }
+}
+
+/// Of a first copy that may not be loaded.
+fn unloadable_kind(why: &Unloadable) -> Kind
+    ensures status { kind_status result ≡ unloadable_status why.now }
+{
+    match why {
+        Unloadable::Failed(cause) => database_kind(*cause),
+        _ => Kind::Refused,
+    }
+}
+
+impl Failure {
     /// The exit status.
     pub fn status(&self) -> u8
         ensures status { IsStatus self.now result }
         ensures range { result ≤ MEMORY }
     {
         match self {
-            Failure::Words(error) if error.kind() == ErrorKind::OutOfMemory => MEMORY,
-            Failure::Words(_) | Failure::User { .. } => USAGE,
-            Failure::Argument(ArgumentFault::Memory) => MEMORY,
-            Failure::Argument(_) => USAGE,
-            Failure::Description { fault, .. } => description_status(*fault),
-            Failure::Tables {
-                fault: TablesFault::Memory,
-                ..
-            } => MEMORY,
-            Failure::Tables { .. } => USAGE,
-            Failure::Misfit { .. } => REFUSED,
-            Failure::Copy { fault, .. } => copy_status(fault),
-            Failure::Unloadable {
-                why: Unloadable::Failed(cause),
-                ..
-            } => database_status(*cause),
-            Failure::Unloadable { .. } => REFUSED,
-            Failure::Database { cause, .. } => database_status(*cause),
-            Failure::File { cause, .. } | Failure::Host { cause, .. } | Failure::Output(cause) =>
-                status_of(cause),
-            Failure::Damaged { .. } | Failure::Unusable { .. } => FILES,
             Failure::Memory => MEMORY,
+            Failure::Output(cause) => kind_of(cause).status(),
+            Failure::Told { kind, .. } => kind.status(),
         }
     }
 
     /// Writes the message. A reader of the output that has gone is none.
     pub fn write<E: Write>(&self, err: &mut E) -> io::Result<()> {
         match self {
-            Failure::Words(error) => write!(err, "{error}"),
-            Failure::Argument(fault) => fault.write(err),
-            Failure::Description { name, fault } => {
-                writeln!(
-                    err,
-                    "mrep: {}: line {}: {}",
-                    Shown(name),
-                    fault.line,
-                    fault.fault
-                )
-            }
-            Failure::Tables {
-                fault: TablesFault::Memory,
-                ..
-            }
-            | Failure::Memory => err.write_all(b"mrep: out of memory\n"),
-            Failure::Tables { name, fault } => {
-                write!(err, "mrep: {}: ", Shown(name))?;
-                fault.write(err)
-            }
-            Failure::Misfit { name, misfit } => {
-                write!(err, "mrep: {}: ", Shown(name))?;
-                misfit.write(err)
-            }
-            Failure::Copy { name, fault } => write_named(name, fault, err),
-            Failure::Unloadable { name, why } => write_unloadable(name, why, err),
-            Failure::User { word, cause } => write_named(word, cause, err),
-            Failure::File { name, cause } | Failure::Host { name, cause } => {
-                write_named(name, cause, err)
-            }
-            Failure::Database { name, cause } => write_named(name, cause, err),
-            Failure::Damaged { name, damage } => {
-                let fault = StoreFault::Damaged;
-                writeln!(err, "mrep: {}: {fault}: {damage}", Shown(name))
-            }
-            Failure::Unusable { name, why } => write_named(name, why, err),
+            Failure::Memory => err.write_all(b"mrep: out of memory\n"),
             Failure::Output(cause) if cause.kind() == io::ErrorKind::BrokenPipe => Ok(()),
             Failure::Output(cause) => write_named("output", cause, err),
+            Failure::Told { message, .. } => err.write_all(message),
         }
     }
 }
 
+/// A failure of this kind, whose message has been written.
+fn told(kind: Kind, message: Vec<u8>, written: io::Result<()>) -> Failure
+    ensures { IsTold kind result }
+{
+    match written {
+        Ok(()) => Failure::Told { kind, message },
+        Err(_) => Failure::Memory,
+    }
+}
+
+/// A failure of this kind: what it is about, and its cause.
+pub fn named<C: Display>(alloc: Global, kind: Kind, name: &str, cause: &C) -> Failure
+    ensures { IsTold kind result }
+{
+    let mut message = Vec::new(alloc);
+    let written = write_named(name, cause, &mut message);
+    told(kind, message, written)
+}
+
+/// The file of this name cannot be used, for this reason.
+pub fn unusable(alloc: Global, name: &str, why: &str) -> Failure
+    ensures { IsTold kind.Files result }
+{
+    named(alloc, Kind::Files, name, &why)
+}
+
+/// The file or the host of this name could not be opened, read or written.
+pub fn of_system(alloc: Global, name: &str, cause: io::Error) -> Failure
+    ensures status { Tells (IsFileStatus cause) result }
+{
+    named(alloc, kind_of(&cause), name, &cause)
+}
+
+/// The database file of this name could not be opened, or the database failed.
+pub fn of_database(alloc: Global, name: &str, cause: StoreFault) -> Failure
+    ensures status { Tells (λ status. status ≡ database_status cause) result }
+{
+    named(alloc, database_kind(cause), name, &cause)
+}
+
+/// The tables of the database file of this name are damaged.
+pub fn of_damage(alloc: Global, name: &str, damage: &Damage) -> Failure
+    ensures { IsTold kind.Files result }
+{
+    let fault = StoreFault::Damaged;
+    let mut message = Vec::new(alloc);
+    let written = writeln!(message, "mrep: {}: {fault}: {damage}", Shown(name));
+    told(Kind::Files, message, written)
+}
+
+/// The words are no command line.
+pub fn of_words(alloc: Global, error: &clap::Error) -> Failure
+    ensures status { Tells (IsWordsStatus error.now) result }
+{
+    let mut message = Vec::new(alloc);
+    let written = write!(message, "{error}");
+    told(words_kind(error), message, written)
+}
+
+/// The value of an argument is none.
+pub fn of_argument(alloc: Global, fault: ArgumentFault<'_>) -> Failure
+    ensures status { Tells (λ status. status ≡ argument_status fault.entry) result }
+{
+    let mut message = Vec::new(alloc);
+    let written = fault.write(&mut message);
+    told(argument_kind(&fault), message, written)
+}
+
+/// What an argument stands for.
+pub fn over_argument<'a, T: Drop>(
+    alloc: Global,
+    read: Result<T, ArgumentFault<'a>>,
+) -> Result<T, Failure>
+    ensures { IfOk result (λ value. read.entry ≡ Ok value) }
+{
+    match read {
+        Ok(value) => Ok(value),
+        Err(fault) => Err(of_argument(alloc, fault)),
+    }
+}
+
+/// The file of this name is no description of columns.
+pub fn of_description(alloc: Global, name: &str, fault: DescriptionFault) -> Failure
+    ensures status { Tells (λ status. status ≡ description_status fault.fault) result }
+{
+    let mut message = Vec::new(alloc);
+    let written = writeln!(
+        message,
+        "mrep: {}: line {}: {}",
+        Shown(name),
+        fault.line,
+        fault.fault
+    );
+    told(description_kind(fault), message, written)
+}
+
+/// No tables are made of the description in the file of this name.
+pub fn of_tables(alloc: Global, name: &str, fault: &TablesFault) -> Failure
+    ensures status { Tells (λ status. status ≡ tables_status fault.now) result }
+{
+    if matches!(fault, TablesFault::Memory) {
+        return Failure::Memory;
+    }
+    let mut message = Vec::new(alloc);
+    let written = write_tables(name, fault, &mut message);
+    told(tables_kind(fault), message, written)
+}
+
+fn write_tables(name: &str, fault: &TablesFault, message: &mut Vec<u8>) -> io::Result<()> {
+    write!(message, "mrep: {}: ", Shown(name))?;
+    fault.write(message)
+}
+
+/// The file of this name is no first copy of tables, or cannot be read.
+pub fn of_copy(alloc: Global, name: &str, fault: &CopyFault) -> Failure
+    ensures status { Tells (IsCopyStatus fault.now) result }
+{
+    named(alloc, copy_kind(fault), name, fault)
+}
+
+/// A first copy of tables may not be loaded into the database of this name.
+pub fn of_unloadable(alloc: Global, name: &str, why: &Unloadable) -> Failure
+    ensures status { Tells (λ status. status ≡ unloadable_status why.now) result }
+{
+    let mut message = Vec::new(alloc);
+    let written = write_unloadable(name, why, &mut message);
+    told(unloadable_kind(why), message, written)
+}
+
+/// A row of the database of this name does not fit the description of its columns.
+pub fn of_misfit(alloc: Global, name: &str, misfit: &Misfit) -> Failure
+    ensures { IsTold kind.Misfit result }
+{
+    let mut message = Vec::new(alloc);
+    let written = write_misfit(name, misfit, &mut message);
+    told(Kind::Misfit, message, written)
+}
+
+fn write_misfit(name: &str, misfit: &Misfit, message: &mut Vec<u8>) -> io::Result<()> {
+    write!(message, "mrep: {}: ", Shown(name))?;
+    misfit.write(message)
+}
+
 /// The failure of the file of this name.
-pub fn of_file<'a>(name: &'a str, fault: FileFault) -> Failure<'a> {
+pub fn of_file(alloc: Global, name: &str, fault: FileFault) -> Failure {
     match fault {
-        FileFault::Unusable(why) => Failure::Unusable { name, why },
-        FileFault::System(cause) => Failure::File { name, cause },
+        FileFault::Unusable(why) => unusable(alloc, name, why),
+        FileFault::System(cause) => of_system(alloc, name, cause),
         FileFault::Memory => Failure::Memory,
     }
 }
 
 /// What was done with the file of this name, whose failure names it.
-pub fn over_file<'a, T: Drop>(name: &'a str, done: Result<T, FileFault>) -> Result<T, Failure<'a>> {
+pub fn over_file<T: Drop>(
+    alloc: Global,
+    name: &str,
+    done: Result<T, FileFault>,
+) -> Result<T, Failure> {
     match done {
         Ok(value) => Ok(value),
-        Err(fault) => Err(of_file(name, fault)),
+        Err(fault) => Err(of_file(alloc, name, fault)),
     }
 }
 
 /// The failure of printing the rows of the database of this name.
-pub fn of_row<'a>(name: &'a str, error: RowError) -> Failure<'a> {
+pub fn of_row(alloc: Global, name: &str, error: RowError) -> Failure {
     match error {
         RowError::Output(cause) => Failure::Output(cause),
-        RowError::Misfit(misfit) => Failure::Misfit { name, misfit },
+        RowError::Misfit(misfit) => of_misfit(alloc, name, &misfit),
     }
 }
 
 /// The failure of the change feed of this name to say that a transaction is skipped.
-pub fn of_skip<'a>(name: &'a str, error: SkipError) -> Failure<'a> {
+pub fn of_skip(alloc: Global, name: &str, error: SkipError) -> Failure {
     match error {
-        SkipError::File(fault) => of_file(name, fault),
-        SkipError::Output(RowError::Output(cause)) => Failure::File { name, cause },
-        SkipError::Output(RowError::Misfit(misfit)) => Failure::Misfit { name, misfit },
+        SkipError::File(fault) => of_file(alloc, name, fault),
+        SkipError::Output(RowError::Output(cause)) => of_system(alloc, name, cause),
+        SkipError::Output(RowError::Misfit(misfit)) => of_misfit(alloc, name, &misfit),
     }
 }
 
 /// Writes the message of a failure, if there is one.
-pub fn write_failure<E: Write>(done: Result<(), Failure<'_>>, err: &mut E) {
+pub fn write_failure<E: Write>(done: Result<(), Failure>, err: &mut E) {
     if let Err(failure) = done {
         let _ = failure.write(err);
     }
 }
 
-impl From<clap::Error> for Failure<'_> {
-    ghost from_gives = { λ error failure. failure ≡ variants.Words error };
-
-    fn from(error: clap::Error) -> Self {
-        Failure::Words(error)
-    }
-}
-
-impl<'a> From<ArgumentFault<'a>> for Failure<'a> {
-    ghost from_gives = { λ fault failure. failure ≡ variants.Argument fault };
-
-    fn from(fault: ArgumentFault<'a>) -> Self {
-        Failure::Argument(fault)
-    }
-}
-
-impl From<io::Error> for Failure<'_> {
+impl From<io::Error> for Failure {
     ghost from_gives = { λ cause failure. failure ≡ variants.Output cause };
 
     fn from(cause: io::Error) -> Self {
@@ -291,7 +385,7 @@ impl From<io::Error> for Failure<'_> {
     }
 }
 
-impl From<AllocError> for Failure<'_> {
+impl From<AllocError> for Failure {
     ghost from_gives = { λ _ failure. failure ≡ variants.Memory };
 
     fn from(_error: AllocError) -> Self {
@@ -299,7 +393,7 @@ impl From<AllocError> for Failure<'_> {
     }
 }
 
-impl From<NoMemory> for Failure<'_> {
+impl From<NoMemory> for Failure {
     ghost from_gives = { λ _ failure. failure ≡ variants.Memory };
 
     fn from(_error: NoMemory) -> Self {
@@ -307,7 +401,7 @@ impl From<NoMemory> for Failure<'_> {
     }
 }
 
-impl<T: Drop> From<AllocFailed<T>> for Failure<'_> {
+impl<T: Drop> From<AllocFailed<T>> for Failure {
     ghost from_gives = { λ _ failure. failure ≡ variants.Memory };
 
     fn from(_error: AllocFailed<T>) -> Self {

@@ -3,7 +3,7 @@
 ghost use Rattle.std.specs.Prelude.{◌≡◌, ◌≤◌, Err, IsOk, IfOk, IfErr};
 ghost use Rattle.mrep.specs.Reason.{status_of, first_status, IsCounted};
 
-use crate::report::failure::{DONE, FILES, Failure, MEMORY, REFUSED};
+use crate::report::failure::{DONE, FILES, Failure, Kind, MEMORY, REFUSED};
 use replica::{Ended, Reason};
 use std::io::Write;
 
@@ -41,25 +41,25 @@ fn first_status(ends: &[Ended]) -> u8
 
 /// The connections whose status counts: not the last one where it was stopped for a row that does not fit, or since memory ran
 /// out, whose failure has a status of its own.
-pub fn counted<'e>(ends: &'e [Ended], done: &Result<(), Failure<'_>>) -> &'e [Ended]
+pub fn counted<'e>(ends: &'e [Ended], done: &Result<(), Failure>) -> &'e [Ended]
     ensures counted { IsCounted ends.now done.now result.now }
 {
     match (ends, done) {
-        ([before @ .., last], Err(Failure::Misfit { .. } | Failure::Memory))
+        ([before @ .., last], Err(Failure::Told { kind: Kind::Misfit, .. } | Failure::Memory))
             if matches!(last.reason, Reason::Halted) => before,
         _ => ends,
     }
 }
 
 /// The first status of the connections that is not 0, otherwise that of any other failure.
-pub fn status_after<'a, E: Write>(
+pub fn status_after<E: Write>(
     ends: &[Ended],
-    done: Result<(), Failure<'a>>,
+    done: Result<(), Failure>,
     err: &mut E,
-) -> Result<u8, Failure<'a>>
+) -> Result<u8, Failure>
     ensures first { IfOk result (λ status. status ≡ first_status ends.now) }
     ensures failed { IfErr result (λ failure. (first_status ends.now ≡ DONE)
-        × (done.entry ≡ Err failure)) }
+        × (done ≡ Err failure)) }
     ensures range { IfOk result (λ status. status ≤ MEMORY) }
 {
     let status = first_status(ends);

@@ -1,7 +1,9 @@
 //! What `mrep replay` and `mrep follow` are asked for beside what they read.
 
 use crate::database::description::read_tables;
-use crate::report::failure::{Failure, of_file, over_file};
+use crate::report::failure::{
+    Failure, of_argument, of_file, of_misfit, of_system, over_argument, over_file,
+};
 use binlog::Follow;
 use clap::ArgMatches;
 use command_line::{ArgumentFault, parse_encoding, parse_set, parse_tables, word};
@@ -35,7 +37,7 @@ pub struct Wanted<'g, 'a> {
 }
 
 /// What was waited for: nothing is known of it where memory ran out.
-pub fn waited<'a>(is_out_of_memory: bool) -> Result<(), Failure<'a>> {
+pub fn waited(is_out_of_memory: bool) -> Result<(), Failure> {
     if is_out_of_memory {
         return Err(Failure::Memory);
     }
@@ -44,10 +46,10 @@ pub fn waited<'a>(is_out_of_memory: bool) -> Result<(), Failure<'a>> {
 
 impl<'g, 'a> Wanted<'g, 'a> {
     /// What the arguments ask for. A form of bytes is that of a feed.
-    pub fn of(given: &'g ArgMatches<'a>) -> Result<Wanted<'g, 'a>, Failure<'a>> {
+    pub fn of(alloc: Global, given: &'g ArgMatches<'a>) -> Result<Wanted<'g, 'a>, Failure> {
         let (changes, bytes) = (given.get_str("changes"), given.get_str("bytes"));
         if bytes.is_some() && changes.is_none() {
-            return Err(ArgumentFault::Bytes.into());
+            return Err(of_argument(alloc, ArgumentFault::Bytes));
         }
         Ok(Wanted {
             db: word(given, "db"),
@@ -62,17 +64,20 @@ impl<'g, 'a> Wanted<'g, 'a> {
     }
 
     /// The filter that the tables make, if any are named.
-    pub fn filter(&self, alloc: Global) -> Result<Option<Follow>, Failure<'a>> {
+    pub fn filter(&self, alloc: Global) -> Result<Option<Follow>, Failure> {
         match self.only {
-            Some(words) => Ok(Some(parse_tables(alloc, words)?)),
+            Some(words) => Ok(Some(over_argument(alloc, parse_tables(alloc, words))?)),
             None => Ok(None),
         }
     }
 
     /// The set that is waited for, if there is one.
-    pub fn until(&self, alloc: Global) -> Result<Option<GtidSet>, Failure<'a>> {
+    pub fn until(&self, alloc: Global) -> Result<Option<GtidSet>, Failure> {
         match self.until {
-            Some(text) => Ok(Some(parse_set(alloc, "--until", text)?)),
+            Some(text) => {
+                let set = parse_set(alloc, "--until", text);
+                Ok(Some(over_argument(alloc, set)?))
+            }
             None => Ok(None),
         }
     }
@@ -98,7 +103,7 @@ impl<'g, 'a> Wanted<'g, 'a> {
         total: Option<u64>,
         read: &[&str],
         err: &mut E,
-    ) -> Result<(Pulse, Reports), Failure<'a>> {
+    ) -> Result<(Pulse, Reports), Failure> {
         let others = self.others(rt.alloc(), read)?;
         self.reports_beside(rt, total, &others, err)
     }
@@ -110,7 +115,7 @@ impl<'g, 'a> Wanted<'g, 'a> {
         total: Option<u64>,
         others: &[&str],
         err: &mut E,
-    ) -> Result<(Pulse, Reports), Failure<'a>> {
+    ) -> Result<(Pulse, Reports), Failure> {
         let chosen = self.chosen(rt.alloc())?;
         let tables = self.tables(rt)?;
         let (pulse, feed) = self.pulse_and_feed(rt, total, others, err)?;
@@ -123,7 +128,7 @@ impl<'g, 'a> Wanted<'g, 'a> {
     }
 
     /// The tables whose columns are described, if any are.
-    fn tables(&self, rt: &HostRuntime) -> Result<Option<DescribedTables>, Failure<'a>> {
+    fn tables(&self, rt: &HostRuntime) -> Result<Option<DescribedTables>, Failure> {
         match self.columns {
             Some(name) => Ok(Some(read_tables(rt, name)?)),
             None => Ok(None),
@@ -137,7 +142,7 @@ impl<'g, 'a> Wanted<'g, 'a> {
         total: Option<u64>,
         others: &[&str],
         err: &mut E,
-    ) -> Result<(Pulse, Option<Feed>), Failure<'a>> {
+    ) -> Result<(Pulse, Option<Feed>), Failure> {
         let pulse = self.pulse(rt, total, others)?;
         pulse.write_status(rt, err);
         let feed = self.feed(rt, others)?;
@@ -145,7 +150,7 @@ impl<'g, 'a> Wanted<'g, 'a> {
     }
 
     /// The files that the command uses besides the change feed: those that it reads, the description, and the status.
-    fn others<'n>(&self, alloc: Global, read: &[&'n str]) -> Result<Vec<&'n str>, Failure<'a>>
+    fn others<'n>(&self, alloc: Global, read: &[&'n str]) -> Result<Vec<&'n str>, Failure>
     where
         'a: 'n,
     {
@@ -161,7 +166,7 @@ impl<'g, 'a> Wanted<'g, 'a> {
     }
 
     /// The tables, of which no row has come, if any are named.
-    fn chosen(&self, alloc: Global) -> Result<Option<Chosen>, Failure<'a>> {
+    fn chosen(&self, alloc: Global) -> Result<Option<Chosen>, Failure> {
         match self.filter(alloc)? {
             Some(filter) => Ok(Some(Chosen::new(alloc, filter)?)),
             None => Ok(None),
@@ -174,7 +179,7 @@ impl<'g, 'a> Wanted<'g, 'a> {
         rt: &HostRuntime,
         total: Option<u64>,
         others: &[&str],
-    ) -> Result<Pulse, Failure<'a>> {
+    ) -> Result<Pulse, Failure> {
         let progress = if self.progress {
             Some(Progress::new(rt, total, rt.stderr().is_terminal()))
         } else {
@@ -183,24 +188,25 @@ impl<'g, 'a> Wanted<'g, 'a> {
         let Some(name) = self.status else {
             return Ok(Pulse::new(progress, None, String::new(rt.alloc())));
         };
-        let file = over_file(name, StatusFile::new(rt, name, self.db, others))?;
+        let file = over_file(rt.alloc(), name, StatusFile::new(rt, name, self.db, others))?;
         let status = Status::new(rt.alloc(), file);
         let named = format!(in rt.alloc(); "{name}")?;
         Ok(Pulse::new(progress, Some(status), named))
     }
 
     /// The change feed, if one is asked for. Its file may be none of the others that the command uses.
-    fn feed(&self, rt: &HostRuntime, others: &[&str]) -> Result<Option<Feed>, Failure<'a>> {
+    fn feed(&self, rt: &HostRuntime, others: &[&str]) -> Result<Option<Feed>, Failure> {
         let Some(name) = self.changes else {
             return Ok(None);
         };
-        let encoding = parse_encoding(self.bytes, Format::Json, self.columns.is_some())?;
+        let encoding = parse_encoding(self.bytes, Format::Json, self.columns.is_some());
+        let encoding = over_argument(rt.alloc(), encoding)?;
         if name == OUTPUT {
             return Ok(Some(Feed::to_output(rt.alloc(), encoding)));
         }
         match Feed::to_file(rt, name, self.db, others, encoding) {
             Ok(feed) => Ok(Some(feed)),
-            Err(fault) => Err(of_file(name, fault)),
+            Err(fault) => Err(of_file(rt.alloc(), name, fault)),
         }
     }
 
@@ -217,9 +223,9 @@ impl<'g, 'a> Wanted<'g, 'a> {
     /// What was done, with its observer. Where it failed, the file that the change feed has made is removed.
     pub fn unless_failed<'w, T, O: Write, E: Write>(
         &self,
-        done: Result<T, Failure<'a>>,
+        done: Result<T, Failure>,
         watch: Watch<'w, O, E>,
-    ) -> Result<(T, Watch<'w, O, E>), Failure<'a>> {
+    ) -> Result<(T, Watch<'w, O, E>), Failure> {
         match done {
             Ok(done) => Ok((done, watch)),
             Err(failure) => {
@@ -230,18 +236,16 @@ impl<'g, 'a> Wanted<'g, 'a> {
     }
 
     /// The failure that stopped the reading, if there is one.
-    pub fn stopped(&self, stop: Option<Stop>) -> Result<(), Failure<'a>> {
+    pub fn stopped(&self, alloc: Global, stop: Option<Stop>) -> Result<(), Failure> {
         match (stop, self.changes) {
             (None, _) => Ok(()),
-            (Some(Stop::Feed(cause)), Some(name)) if name != OUTPUT => Err(Failure::File {
-                name,
-                cause,
-            }),
+            (Some(Stop::Feed(cause)), Some(name)) if name != OUTPUT => {
+                Err(of_system(alloc, name, cause))
+            }
             (Some(Stop::Feed(cause) | Stop::Output(cause)), _) => Err(Failure::Output(cause)),
-            (Some(Stop::Misfit(misfit)), _) => Err(Failure::Misfit {
-                name: self.columns.unwrap_or(""),
-                misfit,
-            }),
+            (Some(Stop::Misfit(misfit)), _) => {
+                Err(of_misfit(alloc, self.columns.unwrap_or(""), &misfit))
+            }
         }
     }
 }
