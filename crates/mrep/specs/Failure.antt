@@ -1,5 +1,5 @@
 -- The exit statuses of the commands.
-use Rattle.std.specs.Prelude.{◌≡◌, ◌≢◌, ℕ, ⊤, ⊥}
+use Rattle.std.specs.Prelude.{◌≡◌, ◌≢◌, ℕ, ⊤}
 use Rattle.std.specs.IoError.{error_kind}
 use Rattle.std.specs.declared.io.Error.{Error}
 use Rattle.std.specs.declared.io.ErrorKind.TheVariants as io_kind
@@ -22,7 +22,7 @@ use Rattle.store.specs.declared.fault.StoreFault.{StoreFault}
 use Rattle.store.specs.declared.fault.StoreFault.TheVariants as store
 use Rattle.mrep.specs.declared.report.failure.Failure.TheVariants.{Memory, Output, Told}
 use Rattle.mrep.specs.declared.report.failure.Kind.{Kind}
-use Rattle.mrep.specs.declared.report.failure.Kind.TheVariants as kind
+use Rattle.mrep.specs.declared.report.failure.Kind.TheVariants as kinds
 
 -- 4 if memory ran out, otherwise 3
 abbrev pub IsFileStatus : Error → ℕ → Type 0
@@ -73,11 +73,11 @@ IsWordsStatus error status = (kind_of error ≡ clap_kind.OutOfMemory → status
 -- 2 for a mistake in the arguments, such as a text that is not a set or a user name, and for a file that is no description or of which no tables are made; 1 for a file that is no
 -- copy, for a copy that may not be loaded, and for a row that does not fit the description; 3 for a file, a host or the database; 4 if memory ran out
 abbrev pub kind_status : Kind → ℕ
-kind_status kind.Usage = 2
-kind_status kind.Refused = 1
-kind_status kind.Misfit = 1
-kind_status kind.Files = 3
-kind_status kind.Memory = 4
+kind_status kinds.Usage = 2
+kind_status kinds.Refused = 1
+kind_status kinds.Misfit = 1
+kind_status kinds.Files = 3
+kind_status kinds.Memory = 4
 
 -- by its kind; 4 if memory ran out, and 3 for the output
 abbrev pub IsStatus : Failure → ℕ → Type 0

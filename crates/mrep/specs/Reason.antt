@@ -5,7 +5,7 @@ use Rattle.replica.specs.declared.end.Reason.TheVariants.{EndOfInput, SourceEof,
 use Rattle.replica.specs.declared.end.Ended.{Ended}
 use Rattle.mrep.specs.declared.report.failure.Failure.{Failure}
 use Rattle.mrep.specs.declared.report.failure.Failure.TheVariants as failure
-use Rattle.mrep.specs.declared.report.failure.Kind.TheVariants as kind
+use Rattle.mrep.specs.declared.report.failure.Kind.TheVariants as kinds
 
 -- 0 if the input or the source's log has ended, or all that is waited for is executed, 1 for a refusal by the source or because of what its data says, 3 for a
 -- file, a socket, the database or the change feed, 4 if memory ran out
@@ -32,7 +32,7 @@ first_status (end ∷ ends) = if status_of end.reason == 0 then first_status end
 
 -- a connection that was stopped for what failed: a row that does not fit the description, or memory
 abbrev pub StopsForFailure : {T : Type 0} → Ended → Result T Failure → Type 0
-StopsForFailure last (Err (failure.Told kind.Misfit message)) = last.reason ≡ Halted
+StopsForFailure last (Err (failure.Told kinds.Misfit message)) = last.reason ≡ Halted
 StopsForFailure last (Err failure.Memory) = last.reason ≡ Halted
 StopsForFailure last _ = ⊥
 

@@ -179,11 +179,7 @@ fn completions<W: Write>(given: &ArgMatches<'_>, out: &mut W) -> Result<u8, Fail
 }
 
 /// Prints the query that a description of the columns is made by.
-fn columns<W: Write>(
-    rt: &HostRuntime,
-    given: &ArgMatches<'_>,
-    out: &mut W,
-) -> Result<u8, Failure>
+fn columns<W: Write>(rt: &HostRuntime, given: &ArgMatches<'_>, out: &mut W) -> Result<u8, Failure>
     ensures { IfOk result (λ status. status ≡ DONE) }
 {
     let alloc = rt.alloc();

@@ -46,11 +46,7 @@ pub fn export<E: Write>(
 }
 
 /// Which tables the arguments ask for, of the description in the file of this name.
-fn wanted(
-    rt: &HostRuntime,
-    given: &ArgMatches<'_>,
-    name: &str,
-) -> Result<Export, Failure> {
+fn wanted(rt: &HostRuntime, given: &ArgMatches<'_>, name: &str) -> Result<Export, Failure> {
     let alloc = rt.alloc();
     let only = given.get_strs("only").unwrap_or(&[]);
     let only = over_argument(alloc, parse_tables(alloc, only))?;

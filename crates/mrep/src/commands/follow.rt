@@ -104,7 +104,9 @@ fn concluded<W: Write, E: Write>(
         Ok((end, failure)) => {
             let printed = watch.report(1, &end, failure);
             watch.note_missing();
-            let stopped = wanted.stopped(alloc, watch.stop()).and(waited(is_out_of_memory));
+            let stopped = wanted
+                .stopped(alloc, watch.stop())
+                .and(waited(is_out_of_memory));
             (Ok(end), over_output(printed).and(stopped).and(closed))
         }
         Err(cause) => {
@@ -159,11 +161,7 @@ impl Following {
 }
 
 /// The settings, with the password from its file: the bytes of the file without one line feed at the end.
-fn settings(
-    rt: &HostRuntime,
-    given: &ArgMatches<'_>,
-    server_id: u32,
-) -> Result<Config, Failure> {
+fn settings(rt: &HostRuntime, given: &ArgMatches<'_>, server_id: u32) -> Result<Config, Failure> {
     let (user, name) = (word(given, "user"), word(given, "password-file"));
     let bytes = over_file(rt.alloc(), name, read_password(rt, name))?;
     let password = match bytes.as_slice() {

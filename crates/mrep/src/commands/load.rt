@@ -144,12 +144,7 @@ fn report_end<E: Write>(rt: &HostRuntime, pulse: &Pulse, size: u64, applied: u64
 }
 
 /// What the end of a load comes to.
-fn outcome(
-    alloc: Global,
-    db: &str,
-    name: &str,
-    end: LoadEnd<RowsFault>,
-) -> Result<(), Failure> {
+fn outcome(alloc: Global, db: &str, name: &str, end: LoadEnd<RowsFault>) -> Result<(), Failure> {
     Err(match end {
         LoadEnd::Changed(ChangeEnd::AllGiven) => return Ok(()),
         LoadEnd::Refused(why) => of_unloadable(alloc, db, &why),

@@ -88,7 +88,9 @@ fn replay_watched<W: Write, E: Write>(
     let (done, watch) = reading.replay_until(rt, wanted.db, watch);
     let ((done, is_out_of_memory), mut watch) = wanted.unless_failed(done, watch)?;
     watch.note_missing();
-    let stopped = wanted.stopped(rt.alloc(), watch.stop()).and(waited(is_out_of_memory));
+    let stopped = wanted
+        .stopped(rt.alloc(), watch.stop())
+        .and(waited(is_out_of_memory));
     Ok((done, stopped))
 }
 
@@ -105,11 +107,7 @@ struct Reading {
 
 impl Reading {
     /// Opens the streams, and reads a byte of each.
-    fn of(
-        rt: &HostRuntime,
-        wanted: &Wanted<'_, '_>,
-        names: &[&str],
-    ) -> Result<Reading, Failure> {
+    fn of(rt: &HostRuntime, wanted: &Wanted<'_, '_>, names: &[&str]) -> Result<Reading, Failure> {
         let until = wanted.until(rt.alloc())?;
         let only = wanted.filter(rt.alloc())?;
         let (captures, total) = open_streams(rt, names)?;

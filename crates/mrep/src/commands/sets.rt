@@ -38,11 +38,7 @@ pub fn missing<W: Write>(
 }
 
 /// Adds a set to the executed set, and prints what was new of it.
-pub fn adopt<W: Write>(
-    rt: &HostRuntime,
-    given: &ArgMatches<'_>,
-    out: &mut W,
-) -> Result<u8, Failure>
+pub fn adopt<W: Write>(rt: &HostRuntime, given: &ArgMatches<'_>, out: &mut W) -> Result<u8, Failure>
     ensures { IfOk result (λ status. status ≡ DONE) }
 {
     let asked = asked(rt.alloc(), given)?;

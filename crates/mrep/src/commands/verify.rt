@@ -40,11 +40,7 @@ pub fn verify<W: Write, E: Write>(
 }
 
 /// The tables whose description a file has. These must be among them.
-fn described(
-    rt: &HostRuntime,
-    name: &str,
-    only: &Follow,
-) -> Result<DescribedTables, Failure> {
+fn described(rt: &HostRuntime, name: &str, only: &Follow) -> Result<DescribedTables, Failure> {
     let described = read_tables(rt, name)?;
     match described.check(rt.alloc(), only) {
         Ok(()) => Ok(described),

@@ -90,11 +90,7 @@ fn print_records<W: Write>(
 }
 
 /// Prints the filter, and a line for each table with rows.
-pub fn print_tallies<W: Write>(
-    rt: &HostRuntime,
-    name: &str,
-    out: &mut W,
-) -> Result<(), Failure> {
+pub fn print_tallies<W: Write>(rt: &HostRuntime, name: &str, out: &mut W) -> Result<(), Failure> {
     let mut counts = Counts {
         tallies: Tallies::new(rt.alloc(), out),
     };

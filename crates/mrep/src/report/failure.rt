@@ -3,10 +3,10 @@
 //! The message is made where the failure is found. So a failure holds nothing of what it is about, and has one part that is
 //! dropped. Where memory runs out for its message, memory is what failed.
 
-ghost use Rattle.std.specs.Prelude.{◌≡◌, ◌≤◌, Err, IfOk};
+ghost use Rattle.std.specs.Prelude.{◌≡◌, ◌≤◌, Ok, IfOk};
 ghost use Rattle.mrep.specs.Failure.{IsCopyStatus, IsFileStatus, IsStatus, IsTold, IsWordsStatus, Tells, argument_status, database_status, description_status, kind_status, tables_status, unloadable_status};
 ghost use Rattle.mrep.specs.declared.report.failure.Failure.TheVariants as variants;
-ghost use Rattle.mrep.specs.declared.report.failure.Kind.TheVariants as kind;
+ghost use Rattle.mrep.specs.declared.report.failure.Kind.TheVariants as kinds;
 
 use clap::error::ErrorKind;
 use columns::{DescriptionFault, LineFault};
@@ -210,12 +210,13 @@ pub fn named<C: Display>(alloc: Global, kind: Kind, name: &str, cause: &C) -> Fa
 
 /// The file of this name cannot be used, for this reason.
 pub fn unusable(alloc: Global, name: &str, why: &str) -> Failure
-    ensures { IsTold kind.Files result }
+    ensures { IsTold kinds.Files result }
 {
     named(alloc, Kind::Files, name, &why)
 }
 
 /// The file or the host of this name could not be opened, read or written.
+#[tactic(auto, using(crate::proofs::Told::tells))]
 pub fn of_system(alloc: Global, name: &str, cause: io::Error) -> Failure
     ensures status { Tells (IsFileStatus cause) result }
 {
@@ -223,6 +224,7 @@ pub fn of_system(alloc: Global, name: &str, cause: io::Error) -> Failure
 }
 
 /// The database file of this name could not be opened, or the database failed.
+#[tactic(auto, using(crate::proofs::Told::tells))]
 pub fn of_database(alloc: Global, name: &str, cause: StoreFault) -> Failure
     ensures status { Tells (λ status. status ≡ database_status cause) result }
 {
@@ -231,7 +233,7 @@ pub fn of_database(alloc: Global, name: &str, cause: StoreFault) -> Failure
 
 /// The tables of the database file of this name are damaged.
 pub fn of_damage(alloc: Global, name: &str, damage: &Damage) -> Failure
-    ensures { IsTold kind.Files result }
+    ensures { IsTold kinds.Files result }
 {
     let fault = StoreFault::Damaged;
     let mut message = Vec::new(alloc);
@@ -240,6 +242,7 @@ pub fn of_damage(alloc: Global, name: &str, damage: &Damage) -> Failure
 }
 
 /// The words are no command line.
+#[tactic(auto, using(crate::proofs::Told::tells))]
 pub fn of_words(alloc: Global, error: &clap::Error) -> Failure
     ensures status { Tells (IsWordsStatus error.now) result }
 {
@@ -249,6 +252,7 @@ pub fn of_words(alloc: Global, error: &clap::Error) -> Failure
 }
 
 /// The value of an argument is none.
+#[tactic(auto, using(crate::proofs::Told::tells))]
 pub fn of_argument(alloc: Global, fault: ArgumentFault<'_>) -> Failure
     ensures status { Tells (λ status. status ≡ argument_status fault.entry) result }
 {
@@ -271,6 +275,7 @@ pub fn over_argument<'a, T: Drop>(
 }
 
 /// The file of this name is no description of columns.
+#[tactic(auto, using(crate::proofs::Told::tells))]
 pub fn of_description(alloc: Global, name: &str, fault: DescriptionFault) -> Failure
     ensures status { Tells (λ status. status ≡ description_status fault.fault) result }
 {
@@ -286,6 +291,7 @@ pub fn of_description(alloc: Global, name: &str, fault: DescriptionFault) -> Fai
 }
 
 /// No tables are made of the description in the file of this name.
+#[tactic(auto, using(crate::proofs::Told::tells))]
 pub fn of_tables(alloc: Global, name: &str, fault: &TablesFault) -> Failure
     ensures status { Tells (λ status. status ≡ tables_status fault.now) result }
 {
@@ -303,6 +309,7 @@ fn write_tables(name: &str, fault: &TablesFault, message: &mut Vec<u8>) -> io::R
 }
 
 /// The file of this name is no first copy of tables, or cannot be read.
+#[tactic(auto, using(crate::proofs::Told::tells))]
 pub fn of_copy(alloc: Global, name: &str, fault: &CopyFault) -> Failure
     ensures status { Tells (IsCopyStatus fault.now) result }
 {
@@ -310,6 +317,7 @@ pub fn of_copy(alloc: Global, name: &str, fault: &CopyFault) -> Failure
 }
 
 /// A first copy of tables may not be loaded into the database of this name.
+#[tactic(auto, using(crate::proofs::Told::tells))]
 pub fn of_unloadable(alloc: Global, name: &str, why: &Unloadable) -> Failure
     ensures status { Tells (λ status. status ≡ unloadable_status why.now) result }
 {
@@ -320,7 +328,7 @@ pub fn of_unloadable(alloc: Global, name: &str, why: &Unloadable) -> Failure
 
 /// A row of the database of this name does not fit the description of its columns.
 pub fn of_misfit(alloc: Global, name: &str, misfit: &Misfit) -> Failure
-    ensures { IsTold kind.Misfit result }
+    ensures { IsTold kinds.Misfit result }
 {
     let mut message = Vec::new(alloc);
     let written = write_misfit(name, misfit, &mut message);

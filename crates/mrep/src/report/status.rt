@@ -45,8 +45,16 @@ pub fn counted<'e>(ends: &'e [Ended], done: &Result<(), Failure>) -> &'e [Ended]
     ensures counted { IsCounted ends.now done.now result.now }
 {
     match (ends, done) {
-        ([before @ .., last], Err(Failure::Told { kind: Kind::Misfit, .. } | Failure::Memory))
-            if matches!(last.reason, Reason::Halted) => before,
+        (
+            [before @ .., last],
+            Err(
+                Failure::Told {
+                    kind: Kind::Misfit,
+                    ..
+                }
+                | Failure::Memory,
+            ),
+        ) if matches!(last.reason, Reason::Halted) => before,
         _ => ends,
     }
 }
