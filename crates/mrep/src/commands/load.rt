@@ -88,19 +88,19 @@ fn load_rows<W: Write, E: Write>(
     let (done, watch) = wanted.unless_failed(done, watch)?;
     let stopped = wanted.stopped(rt.alloc(), watch.stop());
     report_end(rt, &pulse, size, done.applied, err);
-    concluded(rt.alloc(), [wanted.db, file.name], done, stopped, err)
+    concluded(rt.alloc(), wanted.db, file.name, done, stopped, err)
 }
 
-/// What a load comes to. The names are those of the database and of the copy. If it was not done, a failure of closing the database
-/// is only reported.
+/// What a load comes to: `db` is the name of the database, `name` that of the copy. If it was not done, a failure of closing the
+/// database is only reported.
 fn concluded<E: Write>(
     alloc: Global,
-    names: [&str; 2],
+    db: &str,
+    name: &str,
     done: LoadedFile<RowsFault, File>,
     stopped: Result<(), Failure>,
     err: &mut E,
 ) -> Result<(), Failure> {
-    let [db, name] = names;
     let LoadedFile {
         applied,
         end,

@@ -16,8 +16,8 @@ use typed_rows::{Export, ExportedRows, TableError, Tables, note_left_out};
 
 /// A copy of a database: its path, and the names of the file that is made and of the database in failures.
 #[derive(Clone, Copy)]
-pub struct Source<'a> {
-    pub copy: &'a str,
+pub struct Source<'p, 'a> {
+    pub copy: &'p str,
     pub to: &'a str,
     pub db: &'a str,
 }
@@ -27,7 +27,7 @@ pub struct Source<'a> {
 /// named there was no row.
 pub fn export_rows(
     rt: &HostRuntime,
-    source: Source<'_>,
+    source: Source<'_, '_>,
     part: &str,
     export: Export,
 ) -> Result<Vec<u8>, Failure> {
@@ -41,7 +41,7 @@ pub fn export_rows(
 /// Makes tables of a new database in an empty file, with the rows of a copy of a database, and closes both.
 fn fill(
     rt: &HostRuntime,
-    source: Source<'_>,
+    source: Source<'_, '_>,
     part: &str,
     tables: &Tables,
     chosen: Chosen,
@@ -61,7 +61,7 @@ fn fill(
 /// the one of a file.
 fn add_rows<T: Alter>(
     rt: &HostRuntime,
-    source: Source<'_>,
+    source: Source<'_, '_>,
     tables: &Tables,
     chosen: Chosen,
     conn: &mut Connection<T>,
@@ -102,7 +102,7 @@ fn add_rows<T: Alter>(
 /// Gives a copy of a database to what adds its rows to tables.
 fn give_rows<T: Alter>(
     rt: &HostRuntime,
-    source: Source<'_>,
+    source: Source<'_, '_>,
     added: &mut Added<'_, '_, T>,
 ) -> Result<(), Failure> {
     let Source { copy, to, db } = source;

@@ -16,17 +16,17 @@ const JOURNAL: &str = "sqlite3 has left a journal beside it: open it once with s
 
 /// A database file: its path, and its names in failures.
 #[derive(Clone, Copy)]
-struct Place<'a> {
-    path: &'a str,
+struct Place<'p, 'a> {
+    path: &'p str,
     /// The name where the file cannot be used.
     file: &'a str,
     /// The name where what it holds cannot be used.
     content: &'a str,
 }
 
-impl<'a> Place<'a> {
+impl<'a> Place<'a, 'a> {
     /// A file that is given by this name.
-    fn named(name: &'a str) -> Place<'a> {
+    fn named(name: &'a str) -> Place<'a, 'a> {
         Place {
             path: name,
             file: name,
@@ -73,7 +73,7 @@ pub fn listed<E: Drop>(
 
 /// Opens and closes a copy of a database in a file, which copies its WAL file back into it. A failure names the file that is
 /// to be made, or the database where that is what cannot be used.
-pub fn test(rt: &HostRuntime, copy: &str, to: &str, db: &str) -> Result<(), Failure> {
+pub fn test<'a>(rt: &HostRuntime, copy: &str, to: &'a str, db: &'a str) -> Result<(), Failure> {
     match open_file(rt, copy, Unknown, 0, None) {
         Ok(store) => closed(rt.alloc(), to, close_file(store)),
         Err(unopened) => Err(unopened_copy(rt, copy, to, db, unopened)),
@@ -81,11 +81,11 @@ pub fn test(rt: &HostRuntime, copy: &str, to: &str, db: &str) -> Result<(), Fail
 }
 
 /// The failure of a copy of a database that could not be opened, whose files are closed.
-pub fn unopened_copy(
+pub fn unopened_copy<'a>(
     rt: &HostRuntime,
     copy: &str,
-    to: &str,
-    db: &str,
+    to: &'a str,
+    db: &'a str,
     unopened: Unopened<File>,
 ) -> Failure {
     let place = Place {
@@ -186,7 +186,7 @@ fn cause_in<S: Alter>(alloc: Global, fault: StoreFault, conn: &mut Connection<S>
 }
 
 /// The failure of a database file that could not be opened.
-fn refusal(rt: &HostRuntime, place: Place<'_>, cause: Cause) -> Failure {
+fn refusal(rt: &HostRuntime, place: Place<'_, '_>, cause: Cause) -> Failure {
     let alloc = rt.alloc();
     let Place {
         path,
