@@ -70,9 +70,9 @@ pub fn command<S: AsStr, O: Write, E: Write>(
     }
 }
 
-fn run<S: AsStr, O: Write, E: Write>(
-    rt: &HostRuntime,
-    words: &[S],
+fn run<'a, S: AsStr, O: Write, E: Write>(
+    rt: &'a HostRuntime,
+    words: &'a [S],
     out: &mut O,
     err: &mut E,
 ) -> Result<u8, Failure>
@@ -102,10 +102,10 @@ fn answer<S: AsStr, O: Write>(
 }
 
 /// Runs the command of the matches.
-fn run_matches<O: Write, E: Write>(
-    rt: &HostRuntime,
-    command: &mut Command<'_>,
-    matches: &ArgMatches<'_>,
+fn run_matches<'a, O: Write, E: Write>(
+    rt: &'a HostRuntime,
+    command: &mut Command<'a>,
+    matches: &ArgMatches<'a>,
     out: &mut O,
     err: &mut E,
 ) -> Result<u8, Failure>
@@ -139,10 +139,10 @@ fn reads_input_again(given: &ArgMatches<'_>) -> bool {
 }
 
 /// Runs the command of this name, if there is one.
-fn run_named<W: Write, E: Write>(
-    rt: &HostRuntime,
+fn run_named<'a, W: Write, E: Write>(
+    rt: &'a HostRuntime,
     name: &str,
-    given: &ArgMatches<'_>,
+    given: &ArgMatches<'a>,
     out: &mut W,
     err: &mut E,
 ) -> Result<Option<u8>, Failure>
