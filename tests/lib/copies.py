@@ -42,9 +42,18 @@ def text(gtids, rows):
     return b''.join([b'mrep copy 1\n', gtids.encode(), b'\n', *(row + b'\n' for row in rows), b'end\t%d\n' % len(rows)])
 
 
-def loaded_set(gtids, copy, transactions=1):
-    """The executed set after so many transactions of a copy at this set: the first GTID of its source is executed with the set."""
-    return with_source(gtids, source(gtids, copy), 1 + transactions)
+def loaded_set(gtids, copy, transactions=1, ended=True):
+    """The executed set after so many transactions of a copy at this set: the first GTID of its source and the one that says that it
+    has begun are executed with the set, and the one that says that it has ended after its last row."""
+    return with_copy(gtids, source(gtids, copy), 1 + transactions, ended)
+
+
+def with_copy(gtids, added, last, ended=True):
+    """A printed set, the first transactions of the source of a copy, and its marks: MySQL's greatest transaction number and the one
+    before it."""
+    greatest = 2 ** 63 - 2
+    marks = f':{greatest - 1}-{greatest}' if ended else f':{greatest - 1}'
+    return with_source(gtids, added, last, marks)
 
 
 def source(gtids, copy, first=b'mrep copy 1\n'):
@@ -55,9 +64,9 @@ def source(gtids, copy, first=b'mrep copy 1\n'):
     return str(uuid.UUID(bytes=hashlib.sha1(name).digest()[:16], version=5))
 
 
-def with_source(gtids, added, last):
+def with_source(gtids, added, last, marks=''):
     """A printed set and the first transactions of another source."""
-    items = [item for item in gtids.split(',') if item] + ([f'{added}:1-{last}' if last > 1 else f'{added}:1'] if last else [])
+    items = [item for item in gtids.split(',') if item] + ([f'{added}:1-{last}{marks}' if last > 1 else f'{added}:1{marks}'] if last else [])
     return ','.join(sorted(items))
 
 

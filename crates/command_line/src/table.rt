@@ -408,7 +408,7 @@ static OTHERS: [CommandRow; 11] = [
 ];
 
 /// The commands of a first copy.
-static COPYING: [CommandRow; 3] = [
+static COPYING: [CommandRow; 4] = [
     CommandRow(
         "select",
         "Print the statements with which the `mysql` client prints the rows of tables at one moment, for `mrep load`",
@@ -462,12 +462,29 @@ static COPYING: [CommandRow; 3] = [
                 Kind::Needed("G"),
                 "The GTID of the statement, as TRUNCATE or ALTER, that is answered so",
             ),
+            Argument(
+                "at",
+                Kind::Needed("SET"),
+                "What the source had executed before it, as `mrep follow` prints it where it stops at the statement: the database has to have executed just that, and besides it copies alone",
+            ),
             CHANGES,
             CHANGE_COLUMNS,
             BYTES,
             Argument("SCHEMA.TABLE", Kind::Word, "The table"),
         ],
-        "Example, of a TRUNCATE:\n  mrep clear --db F.db --gtid 3e11fa47-71ca-11e1-9e33-c80aa9429562:7 shop.items",
+        "Example, of a TRUNCATE:\n  mrep clear --db F.db --gtid 3e11fa47-71ca-11e1-9e33-c80aa9429562:7 --at 3e11fa47-71ca-11e1-9e33-c80aa9429562:1-6 shop.items",
+    ),
+    CommandRow(
+        "abandon",
+        "Give a first copy up that has begun and not ended: take all rows of its tables out, and print how many went of each",
+        &[
+            DB,
+            CHANGES,
+            CHANGE_COLUMNS,
+            BYTES,
+            Argument("SCHEMA.TABLE", Kind::Words, "A table of the copy"),
+        ],
+        "Example:\n  mrep abandon --db F.db shop.items shop.orders",
     ),
 ];
 

@@ -1,5 +1,5 @@
 -- The rows that the transactions of a text add.
-use Rattle.first_copy.proofs.Names.{◌≡◌, ℕ, suc, ◌+◌, Bool, true, false, List, [], ◌∷◌, ◌++◌, length, refl, sym, ap, subst, ◌∙◌, append_assoc, append-nil, length-append, string_bytes, Ids, CellValue, DescribedTable, ChangeValue, DeliveryValue, IsEndLine}
+use Rattle.first_copy.proofs.Names.{◌≡◌, ℕ, suc, ◌+◌, ◌≤◌, ◌<◌, ◌^◌, arith, Bool, true, false, List, [], ◌∷◌, ◌++◌, length, refl, sym, ap, subst, ◌∙◌, append_assoc, append-nil, length-append, string_bytes, Ids, CellValue, DescribedTable, ChangeValue, DeliveryValue, IsEndLine}
 use Rattle.std.proofs.Common.{ap₂, zero-add}
 use Rattle.std.specs.List.{AllByRecursion}
 use Rattle.binlog.specs.Filter.{Names}
@@ -7,6 +7,8 @@ use Rattle.gather.specs.Transaction.{insert}
 use Rattle.store.specs.State.{Content, TableRow, row_of}
 use Rattle.store.specs.Changes.{adopted, is_admitted}
 use Rattle.replica.specs.Conn.{AppliesAll}
+use Rattle.replica.specs.Marks.{begun_number}
+use Rattle.replica.specs.Copies.{end_of_copy}
 use Rattle.replica.specs.Copied.{AreAdded, AreAdditions, AreCopied, AreNumbered, NoneExecuted, with_all}
 use Rattle.replica.proofs.CopyLoads.{loaded_rows}
 use Rattle.first_copy.specs.RowLines.{IsRowLine}
@@ -75,11 +77,25 @@ all_rows names tables source number Then (d ∷ ds) text have admitted =
       lines_both tables first.0 others.0 Then text (subst (λ (l : List ℕ). HasLinesOf tables first.0 (λ more. HasLinesOf tables others.0 Then more) l) (sym have.2) (first.3 (λ more. HasLinesOf tables others.0 Then more) have.1 others.4)),
     )
 
-pub loaded : (names : Names) (tables : List DescribedTable) (source text : List ℕ) (old new : Content) (ids : Ids) (ds : List DeliveryValue) (n : ℕ) → HaveLines tables source 2 (IsEndLine (0 + length (all_changes ds))) ds text → Admitted names (all_changes ds)
-    → NoneExecuted source 2 (adopted old ids).executed → AppliesAll names (adopted old ids) ds n new
-    → (rows : List TableRow) × HasLinesOf tables rows (IsEndLine (length rows)) text × (n ≡ length ds) × AreAdded rows old.rows new.rows × (new.executed ≡ with_all (adopted old ids).executed ds)
-loaded names tables source text old new ids ds n have admitted none applies =
+loaded : (names : Names) (tables : List DescribedTable) (source text : List ℕ) (old new : Content) (ids : Ids) (ds : List DeliveryValue) (n : ℕ) → HaveLines tables source 2 (IsEndLine (0 + length (all_changes ds))) ds text → Admitted names (all_changes ds)
+    → NoneExecuted source 2 (adopted old ids).executed → 2 + length ds ≤ begun_number → AppliesAll names (adopted old ids) (ds ++ end_of_copy source ∷ []) n new
+    → (rows : List TableRow) × HasLinesOf tables rows (IsEndLine (length rows)) text × (n ≡ length ds + 1) × AreAdded rows old.rows new.rows × (new.executed ≡ with_all (adopted old ids).executed (ds ++ end_of_copy source ∷ []))
+loaded names tables source text old new ids ds n have admitted none few applies =
     let all = all_rows names tables source 2 (IsEndLine (0 + length (all_changes ds))) ds text have admitted in
     let same : 0 + length (all_changes ds) ≡ length all.0 = zero-add (length (all_changes ds)) ∙ sym all.3 in
-    let made = loaded_rows names source 2 (adopted old ids) ds all.0 n new none all.2 all.1 applies in
+    let made = loaded_rows names source 2 (adopted old ids) ds all.0 n new none few all.2 all.1 applies in
     (all.0, subst (λ (k : ℕ). HasLinesOf tables all.0 (IsEndLine k) text) same all.4, made.0, made.1, made.2)
+
+changes_of : (ds : List DeliveryValue) (source : List ℕ) → all_changes (ds ++ end_of_copy source ∷ []) ≡ all_changes ds
+changes_of [] source = refl
+changes_of (d ∷ ds) source = ap (λ (cs : List ChangeValue). d.changes ++ cs) (changes_of ds source)
+
+-- with the one that says that the copy has ended
+pub loaded_all : (names : Names) (tables : List DescribedTable) (source text : List ℕ) (old new : Content) (ids : Ids) (ds rows_of : List DeliveryValue) (n : ℕ) → HaveLines tables source 2 (IsEndLine (0 + length (all_changes rows_of))) rows_of text
+    → ds ≡ rows_of ++ end_of_copy source ∷ [] → length ds < 2 ^ 62 → Admitted names (all_changes ds)
+    → NoneExecuted source 2 (adopted old ids).executed → AppliesAll names (adopted old ids) ds n new
+    → (rows : List TableRow) × HasLinesOf tables rows (IsEndLine (length rows)) text × (n ≡ length ds) × AreAdded rows old.rows new.rows × (new.executed ≡ with_all (adopted old ids).executed ds)
+loaded_all names tables source text old new ids ds rows_of n have same few admitted none applies =
+    let size : length ds ≡ length rows_of + 1 = ap length same ∙ length-append rows_of (end_of_copy source ∷ []) in
+    let made = loaded names tables source text old new ids rows_of n have (subst (λ cs. Admitted names cs) (ap all_changes same ∙ changes_of rows_of source) admitted) none (omega (arith, few, size)) (subst (λ l. AppliesAll names (adopted old ids) l n new) same applies) in
+    (made.0, made.1, made.2 ∙ sym size, made.3, made.4 ∙ ap (λ l. with_all (adopted old ids).executed l) (sym same))

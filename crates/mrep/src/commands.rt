@@ -2,6 +2,7 @@
 
 ghost use Rattle.std.specs.Prelude.{◌≡◌, ◌≤◌, IfOk, IfSome};
 
+pub mod abandon;
 pub mod clear;
 pub mod copy;
 pub mod export;
@@ -16,6 +17,7 @@ pub mod show;
 pub mod skip;
 pub mod verify;
 
+use crate::commands::abandon::abandon;
 use crate::commands::clear::clear;
 use crate::commands::copy::copy;
 use crate::commands::export::export;
@@ -157,6 +159,7 @@ fn run_named<'a, W: Write, E: Write>(
         "select" => select(rt, given, out),
         "load" => load(rt, given, out, err),
         "clear" => clear(rt, given, out, err),
+        "abandon" => abandon(rt, given, out, err),
         "show" | "tables" | "gtids" | "missing" => read(rt, name, given, out, err),
         "adopt" => adopt(rt, given, out),
         "skip" => skip(rt, given, out),

@@ -18,11 +18,12 @@ use Rattle.store.specs.Apply.{IsAtRest}
 use Rattle.store.specs.Store.{Holds}
 use Rattle.replica.specs.declared.connections.NoMemory.{NoMemory}
 use Rattle.replica.specs.declared.clearing.ClearEnd.{ClearEnd}
-use Rattle.replica.specs.declared.clearing.ClearEnd.TheVariants.{Repeat, NotFollowed, Failed}
+use Rattle.replica.specs.declared.clearing.ClearEnd.TheVariants.{Repeat, NotFollowed, OtherSet, Failed}
 use Rattle.replica.specs.declared.clearing.TableRows.{TableRows}
 use Rattle.replica.specs.Noted.{opened}
 use Rattle.replica.specs.Alone.{IsOwnOrHalted}
-use Rattle.replica.specs.Clear.{TableClear, IsCleared, is_in_table, IsToBeCleared, MayEndClear}
+use Rattle.replica.specs.Copies.{HasJust}
+use Rattle.replica.specs.Clear.{TableClear, IsCleared, is_in_table, IsToBeCleared, IsClearedAt, MayEndClear}
 use Rattle.replica.specs.Clearing.{deletes_of, AreDeletesOf, AppendsDeletes, TakesRow, gathered_of, end_by, ListsDeletes, HasCleared, IsClearedSinceOpening}
 use Rattle.replica.proofs.RowDeletes.{others_stay, all_gone, none_refused, as_many}
 use Rattle.replica.proofs.Notices.{weaker_leaves, since_through}
@@ -212,17 +213,20 @@ module _ {S : Type 0} (g : Ghosts S) (settled : (h : Held S) (db : Trees) → Is
   pub not_followed : (names : Names) (clear : TableClear) (store : Store S g) (old : Content) → set.contains old.executed (clear.source, clear.number) ≡ false → admits names clear.schema clear.table ≡ false → Holds g store old → HasCleared g names clear store old NotFollowed
   not_followed names clear store old fresh left_out holds = record { new = old; clears = (fresh, left_out, refl); stays = stays_whole store old _ (inl refl) holds }
 
+  pub other_set : (names : Names) (clear : TableClear) (store : Store S g) (old : Content) → IsToBeCleared names clear old → (HasJust old.executed clear.at → ⊥) → Holds g store old → HasCleared g names clear store old OtherSet
+  other_set names clear store old is other holds = record { new = old; clears = (is, other, refl); stays = stays_whole store old _ (inl refl) holds }
+
   pub not_listed : (names : Names) (clear : TableClear) (store : Store S g) (old : Content) (cause : StoreFault) → IsToBeCleared names clear old → IsFailure cause × HasStayed g store old (λ left. left ≡ old)
       → HasCleared g names clear store old (Failed cause)
   not_listed names clear store old cause is it = record { new = old; clears = (is, it.0, refl); stays = weaker g store old (λ left. left ≡ old) _ (λ left same. inl same) it.1 }
 
-  module _ (clear : TableClear) (before after : Store S g) (old : Content) (rows : ℕ) (changes : List ChangeValue) (later : after.following ≡ before.following) (is : IsToBeCleared before.following clear old) (are : AreDeletesOf clear.schema clear.table old.rows changes) (so_many : rows ≡ length changes) where
+  module _ (clear : TableClear) (before after : Store S g) (old : Content) (rows : ℕ) (changes : List ChangeValue) (later : after.following ≡ before.following) (is : IsClearedAt before.following clear old) (are : AreDeletesOf clear.schema clear.table old.rows changes) (so_many : rows ≡ length changes) where
     -- the transaction is executed before
     not_known : {X : Type 0} → set.contains old.executed (clear.source, clear.number) ≡ true → X
-    not_known known = absurd (false≢true (sym is.fresh ∙ known))
+    not_known known = absurd (false≢true (sym is.to_be.fresh ∙ known))
 
     left_so : (left : Content) → HasOutcome before.following old (record { source = clear.source; number = clear.number; changes = changes }) (done left) → IsCleared clear old left
-    left_so left outcome = is_cleared before.following clear old changes are is.followed left outcome
+    left_so left outcome = is_cleared before.following clear old changes are is.to_be.followed left outcome
 
     by_answer : (answer : Result Bool Reason) → TakesAlone g old (record { source = clear.source; number = clear.number; changes = changes }) before after answer → HasCleared g before.following clear after old (end_by rows answer)
     by_answer (Ok true) it = record {
@@ -241,8 +245,8 @@ module _ {S : Type 0} (g : Ghosts S) (settled : (h : Held S) (db : Trees) → Is
       | inl one ↦ absurd (omega (arith, one.3))
       | inr known ↦ not_known known.0
     ]
-    by_answer (Err (Refused (NoSuchRow at))) it = absurd (none_refused before.following clear.schema clear.table is.followed old.rows are.entries at why.NoSuchRow are.lists (subst (λ cs. IsRefusedAt before.following cs old.rows at why.NoSuchRow) are.changes_are it.0.1))
-    by_answer (Err (Refused (CountFull at))) it = absurd (none_refused before.following clear.schema clear.table is.followed old.rows are.entries at why.CountFull are.lists (subst (λ cs. IsRefusedAt before.following cs old.rows at why.CountFull) are.changes_are it.0.1))
+    by_answer (Err (Refused (NoSuchRow at))) it = absurd (none_refused before.following clear.schema clear.table is.to_be.followed old.rows are.entries at why.NoSuchRow are.lists (subst (λ cs. IsRefusedAt before.following cs old.rows at why.NoSuchRow) are.changes_are it.0.1))
+    by_answer (Err (Refused (CountFull at))) it = absurd (none_refused before.following clear.schema clear.table is.to_be.followed old.rows are.entries at why.CountFull are.lists (subst (λ cs. IsRefusedAt before.following cs old.rows at why.CountFull) are.changes_are it.0.1))
     by_answer (Err (Database (fault.Database e))) it = record {
       new = old;
       clears = (is, refl);
@@ -281,11 +285,11 @@ module _ {S : Type 0} (g : Ghosts S) (settled : (h : Held S) (db : Trees) → Is
     by_answer _ it = absurd it
 
   -- the tables are those of the store from before the list
-  pub ends_by : (names : Names) (clear : TableClear) (before after : Store S g) (old : Content) (rows : ℕ) (changes : List ChangeValue) (answer : Result Bool Reason) (end : ClearEnd) → end ≡ end_by rows answer → before.following ≡ names → after.following ≡ before.following → IsToBeCleared names clear old
+  pub ends_by : (names : Names) (clear : TableClear) (before after : Store S g) (old : Content) (rows : ℕ) (changes : List ChangeValue) (answer : Result Bool Reason) (end : ClearEnd) → end ≡ end_by rows answer → before.following ≡ names → after.following ≡ before.following → IsClearedAt names clear old
       → AreDeletesOf clear.schema clear.table old.rows changes → rows ≡ length changes → TakesAlone g old (record { source = clear.source; number = clear.number; changes = changes }) before after answer → HasCleared g names clear after old end
   ends_by names clear before after old rows changes answer end ends same later is are so_many takes =
       subst₂ (λ n e. HasCleared g n clear after old e) same (sym ends)
-      (by_answer clear before after old rows changes later (subst (λ n. IsToBeCleared n clear old) (sym same) is) are so_many answer takes)
+      (by_answer clear before after old rows changes later (subst (λ n. IsClearedAt n clear old) (sym same) is) are so_many answer takes)
 
 -- whether the observer has ended it
 pub may_end_by : (rows : ℕ) (answer : Result Bool Reason) (account : Account) → IfErr answer (λ reason. IsOwnOrHalted reason account.has_stopped) → MayEndClear (end_by rows answer) account

@@ -17,21 +17,14 @@ use Rattle.replica.specs.declared.loading.Found.{Found}
 use Rattle.replica.specs.declared.loading.Found.TheVariants.{Row}
 use Rattle.replica.specs.declared.loading.QualifiedName.{QualifiedName}
 use Rattle.replica.specs.Loading.{IsLookedAt}
-use Rattle.replica.specs.Copies.{is_of_copy, AreOfCopies, HaveNoRows}
+use Rattle.replica.specs.Marks.{is_of_copy}
+use Rattle.replica.specs.Copies.{AreOfCopies, HaveNoRows}
+use Rattle.replica.proofs.CopyMarks.{of_sources}
 
 -- ---- sources
 
-of_copies : (q : Id) (spans : List Span) → list_all (λ (s : Span). is_of_copy s.source) spans ≡ true → list_any (is_in q) spans ≡ true → is_of_copy q.0 ≡ true
-of_copies q [] all there = absurd (false≢true there)
-of_copies q (s ∷ spans) all there =
-    let parts = and_parts _ _ all in
-    elim (or_cases (is_in q s) (list_any (is_in q) spans) there) [
-      | inl here ↦ subst (λ source. is_of_copy source ≡ true) (sym ((bytes_eq-Decides q.0 s.source).0 (and_parts _ _ here).0)) parts.0
-      | inr further ↦ of_copies q spans parts.1 further
-    ]
-
 pub all_of_copies : (ids : Ids) (spans : List Span) → IsLeastList spans ids → list_all (λ (s : Span). is_of_copy s.source) spans ≡ true → AreOfCopies ids
-all_of_copies ids spans least all = λ q there. of_copies q spans all (sym (least.covers q) ∙ there)
+all_of_copies ids spans least all = λ q there. of_sources is_of_copy q spans all (sym (least.covers q) ∙ there)
 
 some_other : (spans : List Span) → IsLeast spans → list_all (λ (s : Span). is_of_copy s.source) spans ≡ false → (q : Id) × (list_any (is_in q) spans ≡ true) × (is_of_copy q.0 ≡ false)
 some_other [] least some = absurd (true≢false some)

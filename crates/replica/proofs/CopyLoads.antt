@@ -1,10 +1,12 @@
 -- What loading a first copy comes to.
-use Rattle.replica.proofs.Names.{◌≡◌, ℕ, ◌+◌, Bool, ◌||◌, true, false, List, [], ◌∷◌, ◌++◌, length, inl, inr, refl, sym, ap, subst, ◌∙◌, arith, AllByRecursion, eq_by_cmp, Equal-is, false≢true, false_from_ne_true, Id, Ids, id_cmp, id_cmp_total, id_cmp-same, Names, ChangeValue, DeliveryValue, Content, TableRow, Bag, IsMade, AreDone, is_executed, adopted, AppliesAll}
+use Rattle.replica.proofs.Names.{◌≡◌, ℕ, ◌+◌, ◌≤◌, ◌<◌, Bool, ◌||◌, true, false, List, [], ◌∷◌, ◌++◌, length, inl, inr, refl, sym, ap, subst, ◌∙◌, arith, AllByRecursion, eq_by_cmp, Equal-is, false≢true, false_from_ne_true, Id, Ids, id_cmp, id_cmp_total, id_cmp-same, Names, ChangeValue, DeliveryValue, Content, TableRow, Bag, IsMade, AreDone, is_executed, adopted, AppliesAll}
 use Rattle.std.specs.FinSet as set
 use Rattle.std.specs.Prelude.{MatchBool}
 use Rattle.std.proofs.lemmas.Bool.{or_from}
 use Rattle.gather.specs.Transaction.{insert, delete, update}
 use Rattle.store.proofs.ExecutedSets.{nothing_new}
+use Rattle.replica.specs.Marks.{begun_number, ended_number}
+use Rattle.replica.specs.Copies.{end_of_copy}
 use Rattle.replica.specs.Copied.{AreAdded, AreAdditions, AreCopied, AreNumbered, NoneExecuted, with_all, AreOutside}
 use Rattle.replica.proofs.Push.{applies_push}
 use Rattle.replica.proofs.Transactions.{itself, still}
@@ -68,25 +70,37 @@ inserts names (insert schema table cells ∷ changes) rows old new are all =
 inserts names (delete schema table cells ∷ changes) rows old new are all = absurd are
 inserts names (update schema table before after ∷ changes) rows old new are all = absurd are
 
--- one more is executed, and none after it
-none_after : (source : List ℕ) (number : ℕ) (d : DeliveryValue) (old new : Ids) → d.source ≡ source → d.number ≡ number → NoneExecuted source number old → new ≡ set.insert old (d.source, d.number) → NoneExecuted source (number + 1) new
-none_after source number d old new of at none is n above =
+-- one more is executed, and none with a greater number
+still_none : (source : List ℕ) (number n : ℕ) (d : DeliveryValue) (old new : Ids) → d.source ≡ source → d.number ≡ number → number < n → set.contains old (source, n) ≡ false → new ≡ set.insert old (d.source, d.number)
+    → set.contains new (source, n) ≡ false
+still_none source number n d old new of at above none is =
     ap (λ ids. set.contains ids (source, n)) is ∙ set.contains-insert id_cmp_total old (d.source, d.number) (source, n)
     ∙ or_from _ _ (false_from_ne_true _ (λ e. let same = id_cmp-same (source, n) (d.source, d.number) ((Equal-is (id_cmp (source, n) (d.source, d.number))).0 e) in
-    let numbers : n ≡ d.number = ap (λ (q : Id). q.1) same in omega (arith, numbers, at, above))) (none n (omega (arith, above)))
+    let numbers : n ≡ d.number = ap (λ (q : Id). q.1) same in omega (arith, numbers, at, above))) none
 
--- all of them are new, and their rows are added
-pub loaded_rows : (names : Names) (source : List ℕ) (number : ℕ) (old : Content) (ds : List DeliveryValue) (rows : List TableRow) (n : ℕ) (new : Content) → NoneExecuted source number old.executed → AreNumbered source number ds
-    → AreCopied names ds rows → AppliesAll names old ds n new → (n ≡ length ds) × AreAdded rows old.rows new.rows × (new.executed ≡ with_all old.executed ds)
-loaded_rows names source number old [] rows n new none numbered copied t = (t.0, subst (λ l. AreAdded l old.rows new.rows) (sym copied) (ap (λ (c : Content). c.rows) t.1), ap (λ (c : Content). c.executed) t.1)
-loaded_rows names source number old (d ∷ ds) rows n new none numbered copied (inl t) =
-    let rest = loaded_rows names source (number + 1) t.0 ds copied.1 t.1 new (none_after source number d old.executed t.0.executed numbered.0 numbered.1 none t.2.2) numbered.2 copied.4 t.4 in (
+none_after : (source : List ℕ) (number : ℕ) (d : DeliveryValue) (old new : Ids) → d.source ≡ source → d.number ≡ number → number < begun_number → NoneExecuted source number old → new ≡ set.insert old (d.source, d.number) → NoneExecuted source (number + 1) new
+none_after source number d old new of at below none is = record {
+  rows = λ n above under. still_none source number n d old new of at (omega (arith, above)) (none.rows n (omega (arith, above)) under) is;
+  end = still_none source number ended_number d old new of at (omega (arith, below)) none.end is;
+}
+
+-- all of them are new, and their rows are added; and the one that says that the copy has ended is new too
+pub loaded_rows : (names : Names) (source : List ℕ) (number : ℕ) (old : Content) (ds : List DeliveryValue) (rows : List TableRow) (n : ℕ) (new : Content) → NoneExecuted source number old.executed → number + length ds ≤ begun_number → AreNumbered source number ds
+    → AreCopied names ds rows → AppliesAll names old (ds ++ end_of_copy source ∷ []) n new → (n ≡ length ds + 1) × AreAdded rows old.rows new.rows × (new.executed ≡ with_all old.executed (ds ++ end_of_copy source ∷ []))
+loaded_rows names source number old [] rows n new none few numbered copied (inl t) = (
+  omega (arith, t.3, t.4.0),
+  subst (λ l. AreAdded l old.rows new.rows) (sym copied) (ap (λ (c : Content). c.rows) t.4.1 ∙ t.2.1),
+  ap (λ (c : Content). c.executed) t.4.1 ∙ t.2.2,
+)
+loaded_rows names source number old [] rows n new none few numbered copied (inr t) = absurd (false≢true (sym none.end ∙ t.0))
+loaded_rows names source number old (d ∷ ds) rows n new none few numbered copied (inl t) =
+    let rest = loaded_rows names source (number + 1) t.0 ds copied.1 t.1 new (none_after source number d old.executed t.0.executed numbered.0 numbered.1 (omega (arith, few)) none t.2.2) (omega (arith, few)) numbered.2 copied.4 t.4 in (
       omega (arith, t.3, rest.0),
       subst (λ l. AreAdded l old.rows new.rows) (sym copied.2) (added_more copied.0 copied.1 old.rows t.0.rows new.rows (inserts names d.changes copied.0 old.rows t.0.rows copied.3 t.2.1) rest.1),
-      rest.2 ∙ ap (λ ids. with_all ids ds) t.2.2,
+      rest.2 ∙ ap (λ ids. with_all ids (ds ++ end_of_copy source ∷ [])) t.2.2,
     )
-loaded_rows names source number old (d ∷ ds) rows n new none numbered copied (inr t) =
-    let fresh : is_executed old d ≡ false = ap (λ s. set.contains old.executed (s, d.number)) numbered.0 ∙ ap (λ k. set.contains old.executed (source, k)) numbered.1 ∙ none number (omega arith) in
+loaded_rows names source number old (d ∷ ds) rows n new none few numbered copied (inr t) =
+    let fresh : is_executed old d ≡ false = ap (λ s. set.contains old.executed (s, d.number)) numbered.0 ∙ ap (λ k. set.contains old.executed (source, k)) numbered.1 ∙ none.rows number (omega arith) (omega (arith, few)) in
     absurd (false≢true (sym fresh ∙ t.0))
 
 -- ---- what a source sends afterwards

@@ -42,7 +42,9 @@ pub mod RestartFiles
 pub mod FilterSkips
 pub mod Alone
 pub mod InOrder
+pub mod LastOnes
 pub mod ChangeFiles
+pub mod CopyMarks
 pub mod Copies
 pub mod LoadFiles
 pub mod CopyLoads

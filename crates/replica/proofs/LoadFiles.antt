@@ -1,6 +1,9 @@
 -- A store into which a first copy is loaded, and its files.
-use Rattle.replica.proofs.Names.{◌≡◌, ℕ, Bool, false, [], inl, None, Result, Err, IfOk, IfErr, refl, sym, ap, subst, ◌∙◌, Files, AreClean, SeenMayStay, Trees, IsClean, FileStore, Error, HasCleanDisk, over_files, IsClosed, FailsToClose, IsCopied, Id, Ids, Names, Content, adopted, StoreFault, ListError, Store, AreOf, database, Supply, NotAdopted, Account, HasStayed, HasChanged}
+use Rattle.replica.proofs.Names.{◌≡◌, ◌≢◌, ℕ, Bool, true, false, false≢true, true≢false, List, [], inl, None, Result, Err, IfOk, IfErr, refl, sym, ap, ap₂, subst, ◌∙◌, Files, AreClean, SeenMayStay, Trees, IsClean, FileStore, Error, HasCleanDisk, over_files, IsClosed, FailsToClose, IsCopied, Id, Ids, id, Names, Content, adopted, StoreFault, ListError, Store, AreOf, database, Supply, NotAdopted, Account, HasStayed, HasChanged}
 use Rattle.std.specs.FinSet as set
+use Rattle.std.specs.Str.{bytes_eq}
+use Rattle.binlog.proofs.TableSets.{itself}
+use Rattle.gtid.specs.declared.identifier.Gtid.{Gtid}
 use Rattle.sqlite_disk.specs.declared.Disk.{Ghosts}
 use Rattle.sqlite_trees.specs.declared.store.Store.{Ghosts as StoreGhosts}
 use Rattle.sqlite_store.specs.FileStore.{view}
@@ -11,14 +14,39 @@ use Rattle.store.specs.declared.listing.ListError.TheVariants.{Store as StoreErr
 use Rattle.store.specs.Listing.{HoldsListed}
 use Rattle.store.specs.Store.{Holds, Keeps}
 use Rattle.replica.specs.declared.loading.LoadEnd.{LoadEnd}
-use Rattle.replica.specs.declared.loading.LoadEnd.TheVariants.{Changed, Refused}
+use Rattle.replica.specs.declared.loading.LoadEnd.TheVariants.{Changed, HadEnded, Refused}
 use Rattle.replica.specs.declared.loading.Unloadable.{Unloadable}
-use Rattle.replica.specs.Copies.{Copy, IsUnloadable, MayNotLoad, with_first}
+use Rattle.replica.specs.Marks.{ended_number, is_unfinished}
+use Rattle.replica.specs.Given.{empty_of, then_last, unless_last}
+use Rattle.replica.specs.Copies.{Copy, IsKept, MayNotLoad, end_of_copy, was_begun, with_marks}
 use Rattle.replica.specs.Loading.{JudgesCopy, HasLoaded, IsLedByLoad}
 use Rattle.replica.specs.LoadFile.{LoadsTo, IsNotedOfLoad}
 use Rattle.replica.proofs.CaptureFiles.{clean_before_closing, noted_of_files}
 use Rattle.replica.proofs.ContentStays.{keeps_stayed}
 use Rattle.replica.proofs.ChangeFiles.{changed_into}
+
+-- whether a mark of the copy is executed, by the store's set
+pub marked_by : (content : Content) (number_is : ℕ) {executed : Ids} {said says : Bool} {mark : Gtid} {source : List ℕ} → executed ≡ content.executed → said ≡ set.contains executed (id mark) → mark.source ≡ source → mark.number ≡ number_is → said ≡ says
+    → set.contains content.executed (source, number_is) ≡ says
+marked_by content number_is {executed} {said} {says} {mark} {source} same is of number it =
+    ap (λ (ids : Ids). set.contains ids (source, number_is)) (sym same) ∙ ap₂ (λ (s : List ℕ) (n : ℕ). set.contains executed (s, n)) (sym of) (sym number) ∙ sym is ∙ it
+
+-- whether the copy was begun, by the store's set
+pub begun_by : (content : Content) (ids : Ids) (first : Id) {executed : Ids} {said says : Bool} → executed ≡ content.executed → said ≡ was_begun executed ids first → said ≡ says → was_begun content.executed ids first ≡ says
+begun_by content ids first same is it = ap (λ (x : Ids). was_begun x ids first) (sym same) ∙ sym is ∙ it
+
+-- a copy is unfinished by the store's set
+pub unfinished_by : (content : Content) (source : List ℕ) {executed : Ids} → executed ≡ content.executed → is_unfinished executed source ≡ true → is_unfinished content.executed source ≡ true
+unfinished_by content source same is = ap (λ (x : Ids). is_unfinished x source) (sym same) ∙ is
+
+-- what the copy gives, and then the transaction with which it has ended
+pub with_the_end : (is_given : Bool) (inner left : Supply) (last : Gtid) (source : List ℕ) → is_given ≡ false → inner ≡ left → last.source ≡ source → last.number ≡ ended_number
+    → unless_last is_given inner (empty_of last) ≡ then_last left (end_of_copy source)
+with_the_end false inner left last source is same of number = ap₂ then_last same (λ i. record { source = of i; number = number i; changes = [] })
+with_the_end true inner left last source is same of number = absurd (true≢false is)
+
+pub differs : (a b : List ℕ) → bytes_eq a b ≡ false → a ≢ b
+differs a b is same = false≢true (sym is ∙ subst (λ x. bytes_eq a x ≡ true) same (itself a))
 
 module _ {S : Type 0} (g : StoreGhosts S) where
   pub keeps_of : (store : Store S g) (content : Content) → Holds g store content → Keeps g store content
@@ -41,10 +69,10 @@ module _ {S : Type 0} (g : StoreGhosts S) where
   pub held_after : {E : Type 0} (error : ListError E) (e : E) (content : Content) (store : Store S g) → error ≡ VisitorError e → HoldsListed g content store (Err error) → Holds g store content
   held_after {E} error e content store is listed = subst (λ (x : ListError E). HoldsListed g content store (Err x)) is listed
 
-  -- a copy that was not begun may not be loaded
-  pub may_not : (names : Names) (store : Store S g) (content : Content) (ids : Ids) (first : Id) (tables : Names) (executed : Ids) (begun : Bool) → executed ≡ content.executed → begun ≡ set.contains executed first → begun ≡ false
-      → (why : Unloadable) → Keeps g store content → IsUnloadable names content ids tables why → JudgesCopy g names content ids first tables store (Err why)
-  may_not names store content ids first tables executed begun same says is why keeps reason = (keeps, record { not_begun = ap (λ (x : Ids). set.contains x first) (sym same) ∙ sym says ∙ is; reason = reason })
+  -- a copy may not be loaded for this reason
+  pub may_not : (names : Names) (store : Store S g) (content : Content) (ids : Ids) (first : Id) (tables : Names) (why : Unloadable) → Keeps g store content
+      → MayNotLoad names content ids first tables why → JudgesCopy g names content ids first tables store (Err why)
+  may_not names store content ids first tables why keeps reason = (keeps, reason)
 
   -- the copy is refused, and the store keeps what it holds
   pub refused : (before after : Store S g) (old : Content) (ids : Ids) (first : Id) (tables : Names) → after.following ≡ before.following
@@ -83,7 +111,14 @@ module _ {D : Type 0} (g : Ghosts D) (names : Names) (old : Content) (opened aft
         let clean = clean_before_closing after.conn closed copied failed honest in
         let o = opens clean in
         (subst (λ n. HasLoaded over_files {E = E} n after old copy applied (Changed end)) o.1 (loads clean old o.0)).0),
-    changed_into g names old opened after copy.left (with_first copy.ids copy.first) applied end closed same opens (λ clean content holds. (loads clean content holds).1) copied failed,
+    changed_into g names old opened after copy.left (with_marks copy.ids copy.first) applied end closed same opens (λ clean content holds. (loads clean content holds).1) copied failed,
+  )
+  loaded_into {E} only copy applied HadEnded closed same opens loads copied failed = (
+    (λ honest.
+        let clean = clean_before_closing after.conn closed copied failed honest in
+        let o = opens clean in
+        (subst (λ n. HasLoaded over_files {E = E} n after old copy applied HadEnded) o.1 (loads clean old o.0)).0),
+    keeps_stayed g names old opened after only old closed same opens (λ clean holds. (loads clean old holds).1) copied failed,
   )
   loaded_into {E} only copy applied (Refused why) closed same opens loads copied failed = (
     (λ honest.
@@ -99,5 +134,6 @@ module _ {D : Type 0} (g : Ghosts D) (names : Names) (old : Content) (opened aft
       → IfOk closed (λ files. AreClean g files.log files.db → IsCopied after.conn files)
       → IfErr closed (λ e. IsClosed after.conn e.1 × (IsClean (view e.1) → FailsToClose after.conn e.1 e.0))
       → IsNotedOfLoad names old copy t0 t1 end closed
-  noted_of_load still copy t0 t1 (Changed end) closed same opens notes copied failed = λ begun. noted_of_files g names old opened after still (adopted old (with_first copy.ids copy.first)) t0 t1 [] closed same opens (λ clean holds. notes clean holds begun) copied failed
+  noted_of_load still copy t0 t1 (Changed end) closed same opens notes copied failed = λ begun. noted_of_files g names old opened after still (adopted old (with_marks copy.ids copy.first)) t0 t1 [] closed same opens (λ clean holds. notes clean holds begun) copied failed
+  noted_of_load still copy t0 t1 HadEnded closed same opens notes copied failed = tt
   noted_of_load still copy t0 t1 (Refused why) closed same opens notes copied failed = tt

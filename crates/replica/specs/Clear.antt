@@ -2,6 +2,7 @@
 use Rattle.std.specs.Prelude.{◌≡◌, ◌≢◌, ◌⊎◌, ℕ, ◌+◌, Bool, true, false, ◌&&◌, if◌then◌else◌, List, [], ◌∷◌}
 use Rattle.std.specs.Str.{bytes_eq}
 use Rattle.std.specs.FinSet as set
+use Rattle.gtid.specs.Identifier.{Ids}
 use Rattle.gtid.specs.declared.identifier.Gtid.{Gtid}
 use Rattle.binlog.specs.Cell.{CellValue}
 use Rattle.binlog.specs.Filter.{Names, admits}
@@ -11,20 +12,22 @@ use Rattle.store.specs.Faults.{IsFailure}
 use Rattle.store.specs.declared.fault.StoreFault.TheVariants as fault
 use Rattle.replica.specs.declared.end.Reason.TheVariants.{Database, Memory, Halted}
 use Rattle.replica.specs.declared.clearing.ClearEnd.{ClearEnd}
-use Rattle.replica.specs.declared.clearing.ClearEnd.TheVariants.{Cleared, Repeat, NotFollowed, Failed, Stopped}
+use Rattle.replica.specs.declared.clearing.ClearEnd.TheVariants.{Cleared, Repeat, NotFollowed, OtherSet, Failed, Stopped}
+use Rattle.replica.specs.Copies.{HasJust}
 use Rattle.replica.specs.Noted.{Account}
 use Rattle.replica.specs.Alone.{IsOwnOrHalted}
 
--- The table whose rows are taken out, and the GTID of the transaction that takes them out.
+-- The table whose rows are taken out, the GTID of the transaction that takes them out, and the set that was executed before it.
 pub record TableClear : Type 0 where
   pub schema : List ℕ
   pub table : List ℕ
   pub source : List ℕ
   pub number : ℕ
+  pub at : Ids
 
--- the table of these names, and this GTID
-abbrev pub clear_of : List ℕ → List ℕ → Gtid → TableClear
-clear_of schema table gtid = record { schema = schema; table = table; source = gtid.source; number = gtid.number }
+-- the table of these names, this GTID, and this set
+abbrev pub clear_of : List ℕ → List ℕ → Gtid → Ids → TableClear
+clear_of schema table gtid at = record { schema = schema; table = table; source = gtid.source; number = gtid.number; at = at }
 
 -- No row of the table is there any more, each row of another table is there as often as before, and the GTID is executed too.
 pub record IsCleared (clear : TableClear) (old new : Content) : Type 0 where
@@ -53,17 +56,23 @@ module _ (names : Names) (clear : TableClear) where
     pub fresh : set.contains old.executed (clear.source, clear.number) ≡ false
     pub followed : admits names clear.schema clear.table ≡ true
 
+  -- Besides, just the set before it is executed: no transaction of the source that changed the table before comes later.
+  pub record IsClearedAt (old : Content) : Type 0 where
+    pub to_be : IsToBeCleared old
+    pub just : HasJust old.executed clear.at
+
   -- The new content, by how it has ended: the old one without the rows of the table, of which there were so many; or the old one,
-  -- since the GTID was executed, the filter leaves the table out, the rows could not be listed, or the transaction was not applied.
-  -- It is not refused.
+  -- since the GTID was executed, the filter leaves the table out, another set is executed than the one before it, the rows could not be
+  -- listed, or the transaction was not applied. It is not refused.
   abbrev pub ClearsTo : Content → ClearEnd → Content → Type 0
-  ClearsTo old (Cleared rows) new = IsToBeCleared old × HasTableRows clear.schema clear.table old.rows rows × IsCleared clear old new
+  ClearsTo old (Cleared rows) new = IsClearedAt old × HasTableRows clear.schema clear.table old.rows rows × IsCleared clear old new
   ClearsTo old Repeat new = (set.contains old.executed (clear.source, clear.number) ≡ true) × (new ≡ old)
   ClearsTo old NotFollowed new = (set.contains old.executed (clear.source, clear.number) ≡ false) × (admits names clear.schema clear.table ≡ false) × (new ≡ old)
+  ClearsTo old OtherSet new = IsToBeCleared old × (¬ HasJust old.executed clear.at) × (new ≡ old)
   ClearsTo old (Failed cause) new = IsToBeCleared old × IsFailure cause × (new ≡ old)
-  ClearsTo old (Stopped (Database (fault.Database e))) new = IsToBeCleared old × (new ≡ old)
-  ClearsTo old (Stopped Memory) new = IsToBeCleared old × (new ≡ old)
-  ClearsTo old (Stopped Halted) new = IsToBeCleared old × (new ≡ old)
+  ClearsTo old (Stopped (Database (fault.Database e))) new = IsClearedAt old × (new ≡ old)
+  ClearsTo old (Stopped Memory) new = IsClearedAt old × (new ≡ old)
+  ClearsTo old (Stopped Halted) new = IsClearedAt old × (new ≡ old)
   ClearsTo old (Stopped _) new = ⊥
 
   -- The database failed in the transaction, and what is left has no rows of the table.

@@ -1,11 +1,12 @@
 -- What loading a first copy comes to: its rows are added, each once, and its transactions are executed.
-use Rattle.std.specs.Prelude.{◌≡◌, ℕ, ◌+◌, ◌≤◌, true, false, List, [], ◌∷◌, ◌++◌}
+use Rattle.std.specs.Prelude.{◌≡◌, ℕ, ◌+◌, ◌≤◌, ◌<◌, true, false, List, [], ◌∷◌, ◌++◌}
 use Rattle.std.specs.FinSet as set
 use Rattle.gtid.specs.Identifier.{Ids}
 use Rattle.binlog.specs.Filter.{Names, admits}
 use Rattle.gather.specs.Transaction.{ChangeValue, insert, DeliveryValue}
 use Rattle.store.specs.State.{TableRow, row_of, Bag}
 use Rattle.store.specs.Changes.{IsAdded}
+use Rattle.replica.specs.Marks.{begun_number, ended_number}
 
 -- The rows are added in this order, each once.
 abbrev pub AreAdded : List TableRow → Bag → Bag → Type 0
@@ -29,9 +30,10 @@ abbrev pub AreNumbered : List ℕ → ℕ → List DeliveryValue → Type 0
 AreNumbered source number [] = Unit {0}
 AreNumbered source number (d ∷ ds) = (d.source ≡ source) × (d.number ≡ number) × AreNumbered source (number + 1) ds
 
--- No transaction of this source is executed from this number on.
-abbrev pub NoneExecuted : List ℕ → ℕ → Ids → Type 0
-NoneExecuted source number executed = (n : ℕ) → number ≤ n → set.contains executed (source, n) ≡ false
+-- No transaction of a copy with rows is executed from this number on, nor the one that says that the copy has ended.
+pub record NoneExecuted (source : List ℕ) (number : ℕ) (executed : Ids) : Type 0 where
+  pub rows : (n : ℕ) → number ≤ n → n < begun_number → set.contains executed (source, n) ≡ false
+  pub end : set.contains executed (source, ended_number) ≡ false
 
 -- the set with the GTIDs of these transactions
 abbrev pub with_all : Ids → List DeliveryValue → Ids

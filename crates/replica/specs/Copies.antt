@@ -1,17 +1,19 @@
 -- What a first copy of tables asks of the database that it is loaded into. A copy is a source of its own, whose UUID is one of
 -- version 5, made from the text of the copy; the UUIDs of servers are of other versions. RFC 9562, 4.2 "Version Field" and 5.5 "UUID
 -- Version 5"; MySQL Reference Manual, "Replication and Binary Logging Options and Variables" (server_uuid).
-use Rattle.std.specs.Prelude.{◌≡◌, ◌⊎◌, ℕ, ◌/◌, ◌==◌, ◌≤◌, Bool, true, false, List, slice_index}
+use Rattle.std.specs.Prelude.{◌≡◌, ◌≢◌, ◌⊎◌, ℕ, ◌≤◌, ◌&&◌, Bool, true, false, List, []}
 use Rattle.std.specs.FinSet as set
 use Rattle.gtid.specs.Identifier.{Id, Ids, id}
 use Rattle.binlog.specs.Cell.{CellValue}
 use Rattle.binlog.specs.Filter.{Names, admits}
+use Rattle.gather.specs.Transaction.{DeliveryValue}
 use Rattle.store.specs.State.{Content, row_of}
 use Rattle.store.specs.Faults.{IsFailure}
-use Rattle.replica.specs.Given.{Supply}
+use Rattle.replica.specs.Given.{Supply, then_last}
+use Rattle.replica.specs.Marks.{is_of_copy, begun_number, ended_number, given_up_number, is_unfinished, NoOtherUnfinished}
 use Rattle.replica.specs.declared.loading.FirstCopy.{FirstCopy}
 use Rattle.replica.specs.declared.loading.Unloadable.{Unloadable}
-use Rattle.replica.specs.declared.loading.Unloadable.TheVariants.{OtherSet, LeftOut, HasRows, Failed}
+use Rattle.replica.specs.declared.loading.Unloadable.TheVariants.{GivenUp, Unfinished, OtherSet, LeftOut, HasRows, Failed}
 
 -- A copy that is loaded: what is known of its transactions that are still to be given, the set at which its rows were read, the first
 -- GTID of its source, and the tables that it has rows of.
@@ -21,21 +23,30 @@ pub record Copy : Type 1 where
   pub first : Id
   pub tables : Names
 
--- the copy whose transactions are given so
-abbrev pub copy_of : Supply → FirstCopy → Copy
-copy_of left copy = record { left = left; ids = copy.gtids.now; first = id copy.first; tables = copy.tables.now }
+-- the transaction after all rows of a copy of this source, which changes nothing: once it is executed, the copy has ended
+abbrev pub end_of_copy : List ℕ → DeliveryValue
+end_of_copy source = record { source = source; number = ended_number; changes = [] }
 
--- whether the UUID is of version 5
-abbrev pub is_of_copy : List ℕ → Bool
-is_of_copy source = slice_index source 6 / 16 == 5
+-- the copy whose transactions are given so
+abbrev pub loaded_by : Supply → FirstCopy → Copy
+loaded_by left copy = record { left = left; ids = copy.gtids.now; first = id copy.first; tables = copy.tables.now }
+
+-- the copy whose transactions with rows are given so
+abbrev pub copy_of : Supply → FirstCopy → Copy
+copy_of left copy = loaded_by (then_last left (end_of_copy copy.first.source)) copy
 
 -- The set has GTIDs of copies alone.
 abbrev pub AreOfCopies : Ids → Type 0
 AreOfCopies ids = (q : Id) → set.contains ids q ≡ true → is_of_copy q.0 ≡ true
 
--- Nothing is executed but copies, or the set, and besides it nothing but copies.
+-- The set is executed, and besides it nothing but copies.
+abbrev pub HasJust : Ids → Ids → Type 0
+HasJust executed ids = (set.is_subset ids executed ≡ true) × AreOfCopies (set.difference executed ids)
+
+-- Nothing is executed, or just the set. A copy at the empty set is no reason to take one at another set: what is between them would
+-- be lost for its tables.
 abbrev pub IsAtSet : Ids → Ids → Type 0
-IsAtSet executed ids = AreOfCopies executed ⊎ ((set.is_subset ids executed ≡ true) × AreOfCopies (set.difference executed ids))
+IsAtSet executed ids = (set.is_subset executed set.empty ≡ true) ⊎ HasJust executed ids
 
 -- None of the tables has a row.
 abbrev pub HaveNoRows : Names → Content → Type 0
@@ -46,19 +57,31 @@ HaveNoRows tables content =
 abbrev pub AreAdmitted : Names → Names → Type 0
 AreAdmitted names tables = (schema table : List ℕ) → set.contains tables (schema, table) ≡ true → admits names schema table ≡ true
 
--- What a copy adds to the executed set when it begins: its set, and the first GTID of its source. So it is known that it was begun.
-abbrev pub with_first : Ids → Id → Ids
-with_first ids first = set.insert ids first
+-- What a copy adds to the executed set when it begins: its set, the first GTID of its source, and the mark that it has begun.
+abbrev pub with_marks : Ids → Id → Ids
+with_marks ids first = set.insert (set.insert ids first) (first.0, begun_number)
 
--- A copy that was not begun may be: the database is at its set, its filter admits the tables, and they have no rows.
-pub record MayBegin (names : Names) (content : Content) (ids : Ids) (tables : Names) : Type 0 where
+-- The copy was not given up, and has not ended; or has ended, since all of its rows were added.
+abbrev pub IsKept : Ids → Id → Bool → Type 0
+IsKept executed first ended = (set.contains executed (first.0, given_up_number) ≡ false) × (set.contains executed (first.0, ended_number) ≡ ended)
+
+-- whether the copy was begun: its set and the first GTID of its source are executed, as they are by one commit
+abbrev pub was_begun : Ids → Ids → Id → Bool
+was_begun executed ids first = set.is_subset ids executed && set.contains executed first
+
+-- A copy that was not begun may be: no copy is unfinished, the database is at its set, its filter admits the tables, and they have no
+-- rows.
+pub record MayBegin (names : Names) (content : Content) (ids : Ids) (first : Id) (tables : Names) : Type 0 where
+  pub marked : is_unfinished content.executed first.0 ≡ false
   pub at : IsAtSet content.executed ids
   pub admitted : AreAdmitted names tables
   pub empty : HaveNoRows tables content
 
--- The copy may be loaded: it was begun, since the first GTID of its source is executed; or it may begin.
-abbrev pub MayLoad : Names → Content → Ids → Id → Names → Type 0
-MayLoad names content ids first tables = (set.contains content.executed first ≡ true) ⊎ MayBegin names content ids tables
+-- The copy may be loaded: it was not given up and has not ended, no other one is unfinished, and it was begun, or may begin.
+pub record MayLoad (names : Names) (content : Content) (ids : Ids) (first : Id) (tables : Names) : Type 0 where
+  pub kept : IsKept content.executed first false
+  pub others : NoOtherUnfinished content.executed first.0
+  pub begun : (was_begun content.executed ids first ≡ true) ⊎ MayBegin names content ids first tables
 
 -- Why a copy that was not begun may not be: the database is not at its set; it is, and its filter leaves a table out; it is and leaves
 -- none out, and a table has rows; or the database failed, or memory ran out, before that was found out.
@@ -72,8 +95,17 @@ IsUnloadable names content ids tables (HasRows name) =
     × (set.contains tables (name.schema.items, name.table.items) ≡ true)
     × ((cells : List CellValue) × (1 ≤ content.rows (row_of name.schema.items name.table.items cells)))
 IsUnloadable names content ids tables (Failed fault) = IsFailure fault
+IsUnloadable names content ids tables (Unfinished source) = ⊥
+IsUnloadable names content ids tables GivenUp = ⊥
 
--- A copy may not be loaded for this reason: it was not begun.
-pub record MayNotLoad (names : Names) (content : Content) (ids : Ids) (first : Id) (tables : Names) (why : Unloadable) : Type 0 where
-  pub not_begun : set.contains content.executed first ≡ false
-  pub reason : IsUnloadable names content ids tables why
+-- A copy that is kept and has not ended may not be loaded for this reason: another copy is unfinished; it was not begun, and bears the
+-- mark of one that was; or it was not begun and may not be.
+abbrev pub IsReason : Names → Content → Ids → Id → Names → Unloadable → Type 0
+IsReason names content ids first tables (Unfinished source) =
+    (is_unfinished content.executed source ≡ true) × ((source ≢ first.0) ⊎ (was_begun content.executed ids first ≡ false))
+IsReason names content ids first tables why = (was_begun content.executed ids first ≡ false) × IsUnloadable names content ids tables why
+
+-- A copy may not be loaded for this reason: it was given up; or it was not, has not ended, and this is the reason.
+abbrev pub MayNotLoad : Names → Content → Ids → Id → Names → Unloadable → Type 0
+MayNotLoad names content ids first tables GivenUp = set.contains content.executed (first.0, given_up_number) ≡ true
+MayNotLoad names content ids first tables why = IsKept content.executed first false × IsReason names content ids first tables why

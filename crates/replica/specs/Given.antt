@@ -1,5 +1,6 @@
 -- Transactions that are given one at a time.
-use Rattle.std.specs.Prelude.{◌≡◌, List, [], ◌∷◌, ◌++◌, Option, Some, None, Result, Ok, Err}
+use Rattle.std.specs.Prelude.{◌≡◌, ◌⊎◌, Bool, true, false, List, [], ◌∷◌, ◌++◌, Option, Some, None, Result, Ok, Err}
+use Rattle.gtid.specs.declared.identifier.Gtid.{Gtid}
 use Rattle.gather.specs.Transaction.{DeliveryValue}
 use Rattle.gather.specs.View.{delivery_value}
 use Rattle.gather.specs.declared.transaction.Delivery.{Delivery}
@@ -15,6 +16,22 @@ listed all = record {
   begins = λ ds. (more : List DeliveryValue) × (all ≡ ds ++ more);
   are_all = λ ds. all ≡ ds;
 }
+
+-- the transaction of a GTID that changes nothing
+abbrev pub empty_of : Gtid → DeliveryValue
+empty_of gtid = record { source = gtid.source; number = gtid.number; changes = [] }
+
+-- After all of these comes one more, which is the last.
+abbrev pub then_last : Supply → DeliveryValue → Supply
+then_last left last = record {
+  begins = λ ds. left.begins ds ⊎ ((all : List DeliveryValue) × left.are_all all × (ds ≡ all ++ last ∷ []));
+  are_all = λ ds. (all : List DeliveryValue) × left.are_all all × (ds ≡ all ++ last ∷ []);
+}
+
+-- As then_last, if that one was not given yet; none if it was.
+abbrev pub unless_last : Bool → Supply → DeliveryValue → Supply
+unless_last true left last = listed []
+unless_last false left last = then_last left last
 
 -- They begin with these, or these are none.
 abbrev pub BeginWith : Supply → List DeliveryValue → Type 0

@@ -31,6 +31,7 @@ pub mod Alone
 pub mod Changing
 pub mod ChangeFile
 pub mod Restart
+pub mod Marks
 pub mod Copies
 pub mod LoadFile
 pub mod Loading

@@ -12,13 +12,13 @@ use Rattle.store.specs.Store.{Holds, Keeps}
 use Rattle.replica.specs.declared.loading.Found.{Found}
 use Rattle.replica.specs.declared.loading.Found.TheVariants.{Row, Memory}
 use Rattle.replica.specs.declared.loading.LoadEnd.{LoadEnd}
-use Rattle.replica.specs.declared.loading.LoadEnd.TheVariants.{Changed, Refused}
+use Rattle.replica.specs.declared.loading.LoadEnd.TheVariants.{Changed, HadEnded, Refused}
 use Rattle.replica.specs.declared.loading.Unloadable.{Unloadable}
 use Rattle.replica.specs.Over.{HasStayed}
 use Rattle.replica.specs.Noted.{Account, IsLedSinceOpening}
 use Rattle.replica.specs.Change.{IsAdopted}
 use Rattle.replica.specs.Changing.{HasChanged}
-use Rattle.replica.specs.Copies.{Copy, MayLoad, MayNotLoad, with_first}
+use Rattle.replica.specs.Copies.{Copy, MayLoad, MayNotLoad, IsKept, with_marks}
 
 -- The row is of none of the tables, or is found to be of one.
 abbrev pub IsLookedAt : Names → Entry → Result (Unit {0}) Found → Type 0
@@ -28,17 +28,19 @@ IsLookedAt tables entry (Err (Row name)) =
 IsLookedAt tables entry (Err Memory) = Unit {0}
 
 module _ {S : Type 0} (g : Ghosts S) where
-  -- The copy may be loaded, and the store holds the same content; or it may not, for this reason, and the store keeps that content.
+  -- The copy, which has not ended, may be loaded, and the store holds the same content; or it may not, for this reason, and the store
+  -- keeps that content.
   abbrev pub JudgesCopy : Names → Content → Ids → Id → Names → Store S g → Result (Unit {0}) Unloadable → Type 0
   JudgesCopy names content ids first tables new (Ok u) = Holds g new content × MayLoad names content ids first tables
   JudgesCopy names content ids first tables new (Err why) = Keeps g new content × MayNotLoad names content ids first tables why
 
-  -- The store holds the content that was led to, or keeps the one from before; and this is what a crash leaves.
+  -- The store holds the content that was led to, or the one from before; and this is what a crash leaves.
   abbrev pub HasLoaded : {E : Type 0} → Names → Store S g → Content → Copy → ℕ → LoadEnd E → Type 0
-  HasLoaded names store old copy applied (Changed end) = MayLoad names old copy.ids copy.first copy.tables × HasChanged g names store old (with_first copy.ids copy.first) copy.left applied end
+  HasLoaded names store old copy applied (Changed end) = MayLoad names old copy.ids copy.first copy.tables × HasChanged g names store old (with_marks copy.ids copy.first) copy.left applied end
+  HasLoaded names store old copy applied HadEnded = IsKept old.executed copy.first true × HasStayed g store old (λ left. left ≡ old)
   HasLoaded names store old copy applied (Refused why) = MayNotLoad names old copy.ids copy.first copy.tables why × HasStayed g store old (λ left. left ≡ old)
 
   -- What was reported since the set was added leads from the content with it to the one that the store holds.
   abbrev pub IsLedByLoad : {E : Type 0} → Store S g → Store S g → Content → Copy → Account → Account → LoadEnd E → Type 0
-  IsLedByLoad before after old copy was is (Changed end) = IsAdopted end → IsLedSinceOpening g before after false (adopted old (with_first copy.ids copy.first)) was is []
-  IsLedByLoad before after old copy was is (Refused why) = Unit {0}
+  IsLedByLoad before after old copy was is (Changed end) = IsAdopted end → IsLedSinceOpening g before after false (adopted old (with_marks copy.ids copy.first)) was is []
+  IsLedByLoad before after old copy was is _ = Unit {0}

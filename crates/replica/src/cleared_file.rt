@@ -10,7 +10,7 @@ ghost use Rattle.replica.specs.ClearFile.{ClearsFile};
 use crate::clearing::{ClearEnd, clear};
 use crate::file::{Unopened, close_file, open_file};
 use crate::observer::Observer;
-use gtid::Gtid;
+use gtid::{Gtid, GtidSet};
 use sqlite::{Error, FileFrom, FileStore, Files, Start};
 use sqlite_disk::Disk;
 
@@ -23,8 +23,9 @@ pub struct ClearedFile<D: Disk> {
 }
 
 /// Opens the database in a file, which is made for all tables if it is not there, takes all rows of one table out of it and
-/// adds a GTID to its executed set, in one commit, and closes it. Nothing is changed if the GTID is executed, or if the
-/// database was made for other tables than this one.
+/// adds a GTID to its executed set, in one commit, and closes it. Nothing is changed if the GTID is executed, if the database was
+/// made for other tables than this one, or if it has not executed `at` and besides it copies alone: `at` is what the source had
+/// executed before the GTID, and a transaction of it that came later would put rows back.
 ///
 /// The observer is always noticed of the executed set, and then of the transaction, with a delete for each copy of each row. All
 /// of these are in memory at once.
@@ -37,12 +38,13 @@ pub fn clear_file<P: Start, W: Observer>(
     schema: &[u8],
     table: &[u8],
     gtid: Gtid,
+    at: &GtidSet,
     observer: &mut W,
 ) -> Result<ClearedFile<FileFrom<P>>, Unopened<FileFrom<P>>>
     // If the files held a database that stands for a content, or none was there, the closed files hold that content without the
     // rows of the table, if the end says so, and otherwise the content itself.
     ensures clears { IfOk result (λ done. OfHeld None (image_at P.Start) (λ names content.
-        ClearsFile (clear_of schema.now table.now gtid) names content done)) }
+        ClearsFile (clear_of schema.now table.now gtid at.now) names content done)) }
     // Any other database whose tables are known stood for a content too. Why the files could not be closed is what they met.
     ensures closing { IfOk result (λ done. ClosesAs None (image_at P.Start) done.closed) }
     // It stops for the observer only if that has stopped.
@@ -58,7 +60,7 @@ pub fn clear_file<P: Start, W: Observer>(
     ensures untouched { IsErr result → observer.new ≡ observer.old }
 {
     let mut store = open_file(rt, path, start, u64::MAX, None)?;
-    let end = clear(rt.alloc(), &mut store, schema, table, gtid, observer);
+    let end = clear(rt.alloc(), &mut store, schema, table, gtid, at, observer);
     let closed = close_file(store);
     Ok(ClearedFile { end, closed })
 }

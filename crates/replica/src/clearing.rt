@@ -14,10 +14,11 @@ ghost use Rattle.replica.specs.Keeps.{KeepsStore};
 use crate::connections::NoMemory;
 use crate::dump::apply;
 use crate::end::Reason;
+use crate::loading::has_just;
 use crate::observer::Observer;
 use binlog::TableDef;
 use gather::{Changes, Delivery, Image};
-use gtid::Gtid;
+use gtid::{Gtid, GtidSet};
 use sqlite::Alter;
 use std::alloc::{AllocError, Global};
 use std::rc::Rc;
@@ -32,8 +33,10 @@ pub enum ClearEnd {
     Repeat,
     /// Nothing has changed: the filter leaves the table out, so that there are no rows of it.
     NotFollowed,
-    /// Nothing has changed: the rows could not be listed, since the database failed (`Database`) or memory ran out
-    /// (`Memory`). It has no other fault.
+    /// Nothing has changed: the executed set is not the one before the GTID, and besides it copies alone.
+    OtherSet,
+    /// Nothing has changed: the sets could not be compared or the rows not be listed, since the database failed (`Database`) or
+    /// memory ran out (`Memory`). It has no other fault.
     Failed(StoreFault),
     /// The transaction was not applied: the database failed (`Database`), memory ran out (`Memory`), or the observer
     /// stopped before it (`Halted`). It has no other reason.
@@ -158,11 +161,12 @@ pub(crate) fn clear<S: Alter, W: Observer>(
     schema: &[u8],
     table: &[u8],
     gtid: Gtid,
+    at: &GtidSet,
     observer: &mut W,
 ) -> ClearEnd
     ensures clears { HasCleanDisk (database S.Store store.new) → (old : Content)
         → Holds S.Store store.old old
-        → HasCleared S.Store (names_of S.Store store.old) (clear_of schema.now table.now gtid)
+        → HasCleared S.Store (names_of S.Store store.old) (clear_of schema.now table.now gtid at.now)
         store.new old result }
     ensures notes { HasCleanDisk (database S.Store store.new) → (old : Content)
         → Holds S.Store store.old old
@@ -180,6 +184,11 @@ pub(crate) fn clear<S: Alter, W: Observer>(
     }
     if !store.following().follows(schema, table) {
         return ClearEnd::NotFollowed;
+    }
+    match has_just(store.executed(), at) {
+        Ok(true) => {}
+        Ok(false) => return ClearEnd::OtherSet,
+        Err(_) => return ClearEnd::Failed(StoreFault::Memory),
     }
     let changes = match list_deletes(alloc, store, schema, table) {
         Ok(changes) => changes,

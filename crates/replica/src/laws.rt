@@ -17,6 +17,8 @@ ghost use Rattle.scripted_source.specs.Script.{PartValue, ScriptValue};
 ghost use Rattle.scripted_source.specs.Source.{is_once};
 ghost use Rattle.store.specs.State.{Content, TableRow};
 ghost use Rattle.store.specs.Changes.{HasOutcome, adopted, done};
+ghost use Rattle.replica.specs.Marks.{begun_number};
+ghost use Rattle.replica.specs.Copies.{end_of_copy};
 ghost use Rattle.replica.specs.Copied.{AreAdded, AreCopied, AreNumbered, AreOutside, NoneExecuted, with_all};
 ghost use Rattle.store.specs.Store.{HoldsAs, database, names_of};
 ghost use Rattle.store.specs.Entering.{names_for};
@@ -297,13 +299,14 @@ pub fn filtered()
 /// What loading a first copy comes to ([`load_file`](crate::load_file)), over the transactions that its clauses speak of.
 pub fn copied()
     // If none of its transactions was executed before, all of them are applied: their rows are added, each once, and their GTIDs
-    // and the set are executed.
+    // and the set are executed, and so is the one that says that the copy has ended. There are fewer of them than 2^63.
     ensures loaded { (names : Names) (source : List ℕ) (number : ℕ) (old new : Content) (ids : Ids)
         (ds : List DeliveryValue) (rows : List TableRow) (n : ℕ)
-        → NoneExecuted source number (adopted old ids).executed → AreNumbered source number ds
-        → AreCopied names ds rows → AppliesAll names (adopted old ids) ds n new
-        → (n ≡ length ds) × AreAdded rows old.rows new.rows
-        × (new.executed ≡ with_all (adopted old ids).executed ds) }
+        → NoneExecuted source number (adopted old ids).executed
+        → number + length ds ≤ begun_number → AreNumbered source number ds → AreCopied names ds rows
+        → AppliesAll names (adopted old ids) (ds ++ end_of_copy source ∷ []) n new
+        → (n ≡ length ds + 1) × AreAdded rows old.rows new.rows
+        × (new.executed ≡ with_all (adopted old ids).executed (ds ++ end_of_copy source ∷ [])) }
     // Loaded in part and then again, it leads to the content that it leads to at once.
     ensures again { (names : Names) (old mid new : Content) (ids : Ids)
         (some others : List DeliveryValue) (n m : ℕ) → AppliesAll names (adopted old ids) some n mid

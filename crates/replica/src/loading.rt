@@ -8,13 +8,15 @@ ghost use Rattle.gtid.specs.Identifier.{id};
 ghost use Rattle.binlog.specs.Filter.{admits};
 ghost use Rattle.store.specs.State.{Content};
 ghost use Rattle.store.specs.Store.{AreOf, Holds, database, names_of};
-ghost use Rattle.replica.specs.Copies.{is_of_copy, AreOfCopies, IsAtSet, AreAdmitted, with_first, copy_of};
+ghost use Rattle.replica.specs.Marks.{is_of_copy};
+ghost use Rattle.replica.specs.Copies.{AreOfCopies, HasJust, IsAtSet, IsKept, AreAdmitted, was_begun, with_marks, loaded_by};
 ghost use Rattle.replica.specs.Loading.{IsLookedAt, JudgesCopy, HasLoaded, IsLedByLoad};
 ghost use Rattle.replica.specs.LoadFile.{MayStopLoad, UnlessLoaded};
 ghost use Rattle.replica.specs.Keeps.{KeepsStore};
 
 use crate::changing::{ChangeEnd, change};
 use crate::deliveries::Deliveries;
+use crate::marks::{begun_mark, ended_mark, given_up_mark, is_of_copy, is_unfinished, other_unfinished};
 use crate::observer::Observer;
 use binlog::Follow;
 use gtid::{Gtid, GtidFault, GtidSet, Spans};
@@ -32,7 +34,11 @@ pub struct QualifiedName {
 /// Why a first copy of tables may not be loaded.
 #[derive(Debug, Drop)]
 pub enum Unloadable {
-    /// The database has executed transactions, and those of copies aside they are not those of the set.
+    /// The copy was given up.
+    GivenUp,
+    /// A copy of this source has begun and not ended, and is another one, or is not there as it was begun.
+    Unfinished([u8; 16]),
+    /// The database has executed something, and that is not the set, and besides it copies alone.
     OtherSet,
     /// The database was made for other tables than this one.
     LeftOut(QualifiedName),
@@ -45,8 +51,10 @@ pub enum Unloadable {
 /// How a load has ended.
 #[derive(Debug, Drop)]
 pub enum LoadEnd<E> {
-    /// The copy may be loaded, and this is how its transactions have ended.
+    /// The copy may be loaded, and this is how its transactions have ended. The last of them says that all of its rows are there.
     Changed(ChangeEnd<E>),
+    /// It was loaded to its end before, and nothing has changed.
+    HadEnded,
     /// It may not be, and nothing has changed.
     Refused(Unloadable),
 }
@@ -56,7 +64,8 @@ pub enum LoadEnd<E> {
 pub struct FirstCopy<'a> {
     /// What the source had executed when the rows were read.
     pub gtids: &'a GtidSet,
-    /// The first GTID of its source, which is executed as soon as the copy is begun, with the set. No transaction has it.
+    /// The first GTID of its source, which is executed as soon as the copy is begun, with the set and a mark: the last GTID but one
+    /// of the source. No transaction has these two.
     pub first: Gtid,
     /// The tables that it has rows of, each by its name; none where it has no rows.
     pub tables: &'a Follow,
@@ -69,13 +78,6 @@ pub(crate) enum Found {
     Row(QualifiedName),
     /// Memory ran out.
     Memory,
-}
-
-/// Whether the UUID of a source is that of a copy.
-fn is_of_copy(source: &[u8; 16]) -> bool
-    ensures { result ≡ is_of_copy source.now }
-{
-    source[6] / 16 == 5
 }
 
 /// Whether the sources of all these spans are copies.
@@ -98,20 +100,28 @@ fn are_of_copies(gtids: &GtidSet) -> bool
     are_spans_of_copies(gtids.spans())
 }
 
-/// Whether nothing is executed but copies, or the set, and besides it nothing but copies. The only error is `Memory`.
-fn is_at(executed: &GtidSet, gtids: &GtidSet) -> Result<bool, GtidFault>
-    ensures { IfOk result (λ at. (at ≡ true → IsAtSet executed.now gtids.now)
-        × (at ≡ false → ¬ IsAtSet executed.now gtids.now)) }
+/// Whether the set is executed, and besides it nothing but copies. The only error is `Memory`.
+pub(crate) fn has_just(executed: &GtidSet, gtids: &GtidSet) -> Result<bool, GtidFault>
+    ensures { IfOk result (λ just. (just ≡ true → HasJust executed.now gtids.now)
+        × (just ≡ false → ¬ HasJust executed.now gtids.now)) }
 {
-    if are_of_copies(executed) {
-        return Ok(true);
-    }
     if !gtids.is_subset(executed) {
         return Ok(false);
     }
     let mut others = executed.copy()?;
     others.subtract(gtids)?;
     Ok(are_of_copies(&others))
+}
+
+/// Whether nothing is executed, or just the set. The only error is `Memory`.
+fn is_at(alloc: Global, executed: &GtidSet, gtids: &GtidSet) -> Result<bool, GtidFault>
+    ensures { IfOk result (λ at. (at ≡ true → IsAtSet executed.now gtids.now)
+        × (at ≡ false → ¬ IsAtSet executed.now gtids.now)) }
+{
+    if executed.is_subset(&GtidSet::new(alloc)) {
+        return Ok(true);
+    }
+    has_just(executed, gtids)
 }
 
 /// Whether a table is one of these.
@@ -173,7 +183,15 @@ impl Visitor for NoRows<'_> {
     }
 }
 
-/// Whether a copy may be loaded that was read at this set, whose first GTID is this, and which has rows of these tables.
+/// Whether a copy was begun, by its set and its first GTID.
+fn was_begun(executed: &GtidSet, gtids: &GtidSet, first: Gtid) -> bool
+    ensures { result ≡ was_begun executed.now gtids.now (id first) }
+{
+    gtids.is_subset(executed) && executed.contains(first)
+}
+
+/// Whether a copy that is kept and has not ended may be loaded, that was read at this set, whose first GTID is this, and which has rows of these
+/// tables.
 fn may_load<S: Alter>(
     alloc: Global,
     store: &mut Store<S>,
@@ -182,7 +200,9 @@ fn may_load<S: Alter>(
     tables: &Follow,
 ) -> Result<(), Unloadable>
     ensures judges { HasCleanDisk (database S.Store store.new) → (content : Content)
-        → Holds S.Store store.old content → JudgesCopy S.Store (names_of S.Store store.old) content
+        → Holds S.Store store.old content
+        → IsKept content.executed (id first) false
+        → JudgesCopy S.Store (names_of S.Store store.old) content
         gtids.now (id first) tables.now store.new result }
     ensures crash { HasCleanDisk (database S.Store store.new) → (content : Content)
         → Holds S.Store store.old content → (trees : _)
@@ -191,10 +211,16 @@ fn may_load<S: Alter>(
         (names_of S.Store store.old) content trees }
     ensures keeps { KeepsStore S.Store store.old store.new }
 {
-    if store.executed().contains(first) {
+    if let Some(source) = other_unfinished(store.executed(), &first.source) {
+        return Err(Unloadable::Unfinished(source));
+    }
+    if was_begun(store.executed(), gtids, first) {
         return Ok(());
     }
-    match is_at(store.executed(), gtids) {
+    if is_unfinished(store.executed(), &first.source) {
+        return Err(Unloadable::Unfinished(first.source));
+    }
+    match is_at(alloc, store.executed(), gtids) {
         Ok(true) => {}
         Ok(false) => return Err(Unloadable::OtherSet),
         Err(_) => return Err(Unloadable::Failed(StoreFault::Memory)),
@@ -215,15 +241,16 @@ fn may_load<S: Alter>(
 
 /// What a copy adds to the executed set when it begins. The only error is `Memory`.
 fn set_of(copy: &FirstCopy<'_>) -> Result<GtidSet, GtidFault>
-    ensures { IfOk result (λ ids. ids ≡ with_first copy.now.gtids.now (id copy.now.first)) }
+    ensures { IfOk result (λ ids. ids ≡ with_marks copy.now.gtids.now (id copy.now.first)) }
 {
     let mut gtids = copy.gtids.copy()?;
     gtids.insert(copy.first)?;
+    gtids.insert(begun_mark(copy.first.source))?;
     Ok(gtids)
 }
 
-/// Loads a copy, if that may be done: adopts its set with its first GTID, and applies its transactions as [`change`] does.
-/// Returns how many were applied, and how that ended.
+/// Loads a copy, if that may be done: adopts its set with its marks, and applies the transactions that are given as [`change`]
+/// does. Returns how many were applied, and how that ended. A copy that has ended is not loaded again.
 pub(crate) fn load<S: Alter, I: Deliveries, W: Observer>(
     alloc: Global,
     store: &mut Store<S>,
@@ -233,15 +260,21 @@ pub(crate) fn load<S: Alter, I: Deliveries, W: Observer>(
 ) -> (u64, LoadEnd<I::Error>)
     ensures loads { HasCleanDisk (database S.Store store.new) → (old : Content)
         → Holds S.Store store.old old → HasLoaded S.Store (names_of S.Store store.old) store.new
-        old (copy_of (I.supply deliveries.old) copy.now) result.0 result.1 }
+        old (loaded_by (I.supply deliveries.old) copy.now) result.0 result.1 }
     ensures notes { HasCleanDisk (database S.Store store.new) → (old : Content)
         → Holds S.Store store.old old → IsLedByLoad S.Store store.old store.new old
-        (copy_of (I.supply deliveries.old) copy.now) (W.account observer.old)
+        (loaded_by (I.supply deliveries.old) copy.now) (W.account observer.old)
         (W.account observer.new) result.1 }
     ensures asked { MayStopLoad result.1 (W.account observer.new) }
     ensures unreported { UnlessLoaded result.1 (observer.new ≡ observer.old) }
     ensures keeps { KeepsStore S.Store store.old store.new }
 {
+    if store.executed().contains(given_up_mark(copy.first.source)) {
+        return (0, LoadEnd::Refused(Unloadable::GivenUp));
+    }
+    if store.executed().contains(ended_mark(copy.first.source)) {
+        return (0, LoadEnd::HadEnded);
+    }
     match may_load(alloc, store, copy.gtids, copy.first, copy.tables) {
         Ok(()) => {
             let Ok(gtids) = set_of(copy) else {

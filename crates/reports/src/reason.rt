@@ -59,6 +59,8 @@ pub enum Halt<'a> {
     Misfit,
     /// Memory ran out for what is waited for.
     Memory,
+    /// A first copy of tables has begun and not ended.
+    Unfinished,
 }
 
 /// Writes the cause to standard error if the line of an end leaves it out: the stream or the database file, and the
@@ -107,6 +109,7 @@ fn write_halted<W: Write>(stream: Shown<'_>, halt: Halt<'_>, out: &mut W) -> io:
             out.write_all(b"a row of it does not fit the description of its columns\n")
         }
         Halt::Memory => out.write_all(b"memory ran out for the set that is waited for\n"),
+        Halt::Unfinished => out.write_all(b"a first copy of tables is unfinished\n"),
     }
 }
 

@@ -7,9 +7,18 @@ use files::FileFault;
 use formats::text_of;
 use gather::Delivery;
 use gtid::{Gtid, GtidSet};
-use replica::{Ended, Observer, Reason};
+use replica::{Ended, Observer, Reason, unfinished_copy};
 use std::alloc::Global;
 use typed_rows::{SkipError, SkipFeed, Skipping};
+
+/// Why a transaction is not recorded as skipped, or the feed does not say it.
+#[derive(Drop)]
+pub enum SkipStop {
+    /// The feed could not be written.
+    Feed(SkipError),
+    /// A first copy of tables has begun in the database, and not ended.
+    Unfinished,
+}
 
 /// An observer of a transaction without changes, which is recorded as executed. If there is a feed, it says before it that it
 /// is to be skipped, and afterwards whether it was recorded. Of one that is executed it says nothing.
@@ -20,7 +29,7 @@ pub struct SkipWatch<'a> {
     /// The executed set at the start, where there is a feed.
     executed: Option<String>,
     skipping: Option<Skipping>,
-    stop: Option<SkipError>,
+    stop: Option<SkipStop>,
 }
 
 impl<'a> SkipWatch<'a> {
@@ -35,8 +44,8 @@ impl<'a> SkipWatch<'a> {
         }
     }
 
-    /// Why the feed does not say it, if so.
-    pub fn stop(self) -> Option<SkipError> {
+    /// Why it is not recorded, or the feed does not say it, if so.
+    pub fn stop(self) -> Option<SkipStop> {
         let SkipWatch { stop, .. } = self;
         stop
     }
@@ -50,7 +59,7 @@ impl<'a> SkipWatch<'a> {
         };
         match feed.begin(self.alloc, executed.as_str(), gtid) {
             Ok(skipping) => self.skipping = Some(skipping),
-            Err(error) => self.stop = Some(error),
+            Err(error) => self.stop = Some(SkipStop::Feed(error)),
         }
     }
 }
@@ -64,12 +73,16 @@ impl Observer for SkipWatch<'_> {
     } };
 
     fn opened(&mut self, executed: &GtidSet) {
+        if unfinished_copy(executed).is_some() {
+            self.stop = Some(SkipStop::Unfinished);
+            return;
+        }
         if self.feed.is_none() {
             return;
         }
         match text_of(self.alloc, executed) {
             Ok(text) => self.executed = Some(text),
-            Err(_) => self.stop = Some(SkipError::File(FileFault::Memory)),
+            Err(_) => self.stop = Some(SkipStop::Feed(SkipError::File(FileFault::Memory))),
         }
     }
 
@@ -94,7 +107,7 @@ impl Observer for SkipWatch<'_> {
             return;
         };
         if let Err(error) = skipping.end(self.alloc, is_recorded) {
-            self.stop = Some(error);
+            self.stop = Some(SkipStop::Feed(error));
         }
     }
 

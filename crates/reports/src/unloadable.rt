@@ -6,13 +6,21 @@ use std::io;
 use std::io::Write;
 
 const OTHER_SET: &str =
-    "it has executed other transactions than those that the copy has, so that their changes of other tables would be lost: follow until exactly the executed set of the copy, or copy again";
+    "it has executed other transactions than those that the copy has, or another copy was loaded, so that changes of other tables would be lost: follow until exactly the executed set of the copy, or copy again";
+
+/// What to do where a first copy has begun and not ended.
+pub const UNFINISHED: &str =
+    "a first copy of tables has begun and not ended: load the same copy again, which goes on where it stopped, or give it up by `mrep abandon`";
+const GIVEN_UP: &str =
+    "this copy was given up: make a new one";
 
 /// Writes why a copy may not be loaded, and what to do.
 pub fn write_unloadable<E: Write>(name: &str, why: &Unloadable, err: &mut E) -> io::Result<()> {
     match why {
         Unloadable::Failed(cause) => write_named(name, cause, err),
         Unloadable::OtherSet => write_named(name, &OTHER_SET, err),
+        Unloadable::Unfinished(_) => write_named(name, &UNFINISHED, err),
+        Unloadable::GivenUp => write_named(name, &GIVEN_UP, err),
         Unloadable::LeftOut(table) => {
             write!(
                 err,

@@ -8,7 +8,7 @@ use binlog::Event;
 use formats::{Chosen, Details, Shown, text_of};
 use gather::Delivery;
 use gtid::GtidSet;
-use replica::{Ended, Observer, Reason, Refusal};
+use replica::{Ended, Observer, Reason, Refusal, unfinished_copy};
 use std::io;
 use std::io::Write;
 use typed_rows::{
@@ -24,6 +24,8 @@ pub enum Stop {
     Feed(io::Error),
     /// A row does not fit the description of its columns.
     Misfit(Misfit),
+    /// A first copy of tables has begun in the database, and not ended.
+    Unfinished,
 }
 
 impl Stop {
@@ -47,6 +49,8 @@ pub struct Source<'a> {
     pub db: &'a str,
     /// The name of the change feed: `-` for standard output, also without one.
     pub changes: &'a str,
+    /// Whether it is a first copy of tables, which alone may go on where one has begun and not ended.
+    pub is_copy: bool,
 }
 
 /// What is reported, where it is asked for.
@@ -184,6 +188,7 @@ impl<'a, O: Write, E: Write> Watch<'a, O, E> {
     fn halt(&self) -> Halt<'a> {
         match self.stop {
             Some(Stop::Misfit(_)) => Halt::Misfit,
+            Some(Stop::Unfinished) => Halt::Unfinished,
             Some(_) if self.source.changes == OUTPUT => Halt::Output,
             Some(_) => Halt::Feed(self.source.changes),
             None => Halt::Memory,
@@ -268,6 +273,10 @@ impl<'a, O: Write, E: Write> Observer for Watch<'a, O, E> {
 
     fn opened(&mut self, executed: &GtidSet) {
         self.pulse.opened(executed);
+        if !self.source.is_copy && unfinished_copy(executed).is_some() {
+            self.stop = Some(Stop::Unfinished);
+            return;
+        }
         if !executed.is_subset(&GtidSet::new(self.source.rt.alloc())) {
             self.chosen = None;
         }

@@ -8,8 +8,9 @@ use crate::report::failure::{
 };
 use crate::report::wanted::Wanted;
 use clap::ArgMatches;
-use command_line::{parse_gtid, parse_table, word};
-use gtid::Gtid;
+use command_line::{parse_gtid, parse_set, parse_table, word};
+use formats::write_table;
+use gtid::{Gtid, GtidSet};
 use replica::{ClearEnd, ClearedFile, Observer, Reason, clear_file};
 use reports::Watch;
 use sqlite::File;
@@ -17,6 +18,9 @@ use sqlite_disk::Unknown;
 use std::alloc::Global;
 use std::io::Write;
 use store::StoreFault;
+
+const OTHER_SET: &str =
+    "it has not executed just the set of --at, and besides it copies alone, so that rows from before the statement would come back, or later ones go: follow --until exactly what the source had executed before it, or give that set";
 
 /// Takes all rows of a table out of a database and records a GTID as executed, in one commit, and prints how many rows went.
 pub fn clear<W: Write, E: Write>(
@@ -31,12 +35,16 @@ pub fn clear<W: Write, E: Write>(
     let gtid = over_argument(alloc, parse_gtid("--gtid", word(given, "gtid")))?;
     let table = parse_table(alloc, word(given, "SCHEMA.TABLE"));
     let (schema, name) = over_argument(alloc, table)?;
+    let at = over_argument(alloc, parse_set(alloc, "--at", word(given, "at")))?;
     let wanted = Wanted::of(alloc, given)?;
-    let table = Table {
+    let clear = Clear {
         schema: &schema,
         name: &name,
+        gtid,
+        at: &at,
+        is_copy: false,
     };
-    let rows = clear_reported(rt, &wanted, table, gtid, out, err)?;
+    let rows = clear_reported(rt, &wanted, clear, out, err)?;
     if wanted.feeds_output() {
         print(rows, err)?;
     } else {
@@ -45,26 +53,34 @@ pub fn clear<W: Write, E: Write>(
     Ok(DONE)
 }
 
-/// A table, by its names.
+/// A table, by its names, the GTID of the statement that has emptied it, and what the source had executed before.
 #[derive(Clone, Copy)]
-struct Table<'t> {
-    schema: &'t [u8],
-    name: &'t [u8],
+pub struct Clear<'t> {
+    pub schema: &'t [u8],
+    pub name: &'t [u8],
+    pub gtid: Gtid,
+    pub at: &'t GtidSet,
+    /// Whether the rows are those of a first copy that is given up.
+    pub is_copy: bool,
 }
 
 /// Takes all rows of a table out of a database, with the reports that are wanted. Returns how many went; none where the GTID was
 /// executed.
-fn clear_reported<W: Write, E: Write>(
+pub fn clear_reported<W: Write, E: Write>(
     rt: &HostRuntime,
     wanted: &Wanted<'_, '_>,
-    table: Table<'_>,
-    gtid: Gtid,
+    what: Clear<'_>,
     out: &mut W,
     err: &mut E,
 ) -> Result<Option<u64>, Failure> {
     let (pulse, reports) = wanted.reports(rt, None, &[], err)?;
-    let mut watch = Watch::new(wanted.source(rt, &[], 0), &pulse, reports, out, err);
-    let done = clear_in(rt, wanted.db, table, gtid, &mut watch);
+    let source = if what.is_copy {
+        wanted.copy_source(rt)
+    } else {
+        wanted.source(rt, &[], 0)
+    };
+    let mut watch = Watch::new(source, &pulse, reports, out, err);
+    let done = clear_in(rt, wanted.db, what, &mut watch);
     let (done, watch) = wanted.unless_failed(done, watch)?;
     let alloc = rt.alloc();
     let stopped = wanted.stopped(alloc, watch.stop());
@@ -83,13 +99,18 @@ fn clear_reported<W: Write, E: Write>(
 fn clear_in<W: Observer>(
     rt: &HostRuntime,
     db: &str,
-    table: Table<'_>,
-    gtid: Gtid,
+    what: Clear<'_>,
     observer: &mut W,
 ) -> Result<ClearedFile<File>, Failure> {
     let opening = opening(rt, db)?;
-    let Table { schema, name } = table;
-    let done = clear_file(rt, db, Unknown, schema, name, gtid, observer);
+    let Clear {
+        schema,
+        name,
+        gtid,
+        at,
+        ..
+    } = what;
+    let done = clear_file(rt, db, Unknown, schema, name, gtid, at, observer);
     opened(rt, db, opening, done)
 }
 
@@ -109,6 +130,7 @@ fn rows_of(
             db,
             "it was made for other tables than this one",
         )),
+        ClearEnd::OtherSet => Err(unusable(alloc, db, OTHER_SET)),
         ClearEnd::Failed(cause) => Err(of_database(alloc, db, cause)),
     };
     drop(stopped);
@@ -122,6 +144,20 @@ pub fn failure_of(alloc: Global, db: &str, reason: Reason) -> Failure {
         Reason::Memory => Failure::Memory,
         _ => of_database(alloc, db, StoreFault::Broken),
     }
+}
+
+/// Prints a table, and how many rows of it went; nothing where the GTID was executed.
+pub fn print_table<W: Write>(
+    schema: &[u8],
+    name: &[u8],
+    rows: Option<u64>,
+    out: &mut W,
+) -> std::io::Result<()> {
+    let Some(rows) = rows else {
+        return Ok(());
+    };
+    write_table(schema, name, out)?;
+    writeln!(out, " {rows}")
 }
 
 /// Prints how many rows went, or that the GTID was executed.

@@ -14,7 +14,7 @@ use command_line::{parse_number, word};
 use files::{others_may_read, read_password};
 use formats::Shown;
 use gtid::GtidSet;
-use replica::{Config, ConfigFault, Connect, Ended, FollowedFile, Observer, Until, follow_file};
+use replica::{Config, ConfigFault, Connect, Ended, FollowedFile, Observer, Until, follow_file, unfinished_copy};
 use reports::{Pulse, Reports, Socket, Watch};
 use sqlite_disk::Unknown;
 use std::alloc::Global;
@@ -73,7 +73,7 @@ fn follow_host<W: Write, E: Write>(
     let watch = Watch::new(wanted.source(rt, &streams, port), pulse, reports, out, err);
     let (followed, watch) = follow_until(host, wanted.db, following, watch);
     let (end, done) = match followed {
-        Ok(followed) => concluded(rt.alloc(), wanted, followed, watch),
+        Ok(followed) => concluded(rt.alloc(), wanted, name, followed, watch),
         Err(failure) => {
             watch.discard(wanted.feed_name());
             return Err(failure);
@@ -81,20 +81,22 @@ fn follow_host<W: Write, E: Write>(
     };
     match end {
         Ok(end) => status_after(counted(&[end], &done), done, err),
-        Err(cause) => {
+        Err(failure) => {
             write_failure(done, err);
-            Err(of_system(rt.alloc(), name, cause))
+            Err(failure)
         }
     }
 }
 
-/// Prints how the connection ended. Returns that, or why there is no connection, and whether all else was done.
+/// Prints how the connection to a source of this name ended. Returns that, or why there is no connection, and whether all else was
+/// done.
 fn concluded<W: Write, E: Write>(
     alloc: Global,
     wanted: &Wanted<'_, '_>,
+    name: &str,
     followed: Followed,
     mut watch: Watch<'_, W, E>,
-) -> (io::Result<Ended>, Result<(), Failure>) {
+) -> (Result<Ended, Failure>, Result<(), Failure>) {
     let Followed {
         connection,
         closed,
@@ -111,7 +113,10 @@ fn concluded<W: Write, E: Write>(
         }
         Err(cause) => {
             watch.give_up();
-            (Err(cause), wanted.stopped(alloc, watch.stop()).and(closed))
+            match wanted.stopped(alloc, watch.stop()) {
+                Ok(()) => (Err(of_system(alloc, name, cause)), closed),
+                Err(failure) => (Err(failure), closed),
+            }
         }
     }
 }
@@ -223,7 +228,11 @@ impl<'r> Connect for Host<'r, '_> {
 
     ghost gives = { λ _ _ _. ⊤ };
 
-    fn connect(self, _executed: &GtidSet) -> io::Result<Socket<'r>> {
+    /// The source is not reached where a first copy is unfinished.
+    fn connect(self, executed: &GtidSet) -> io::Result<Socket<'r>> {
+        if unfinished_copy(executed).is_some() {
+            return Err(io::ErrorKind::Other.into());
+        }
         match TcpStream::connect(self.rt, (unbracketed(self.name), self.port)) {
             Ok(stream) => Ok(Socket::new(self.rt, stream, self.pulse)),
             Err(cause) => Err(cause),

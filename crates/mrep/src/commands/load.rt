@@ -83,7 +83,7 @@ fn load_rows<W: Write, E: Write>(
 ) -> Result<(), Failure> {
     let (pulse, reports) = wanted.reports(rt, Some(size), &[file.name], err)?;
     let rows = file.rows(rt, summary, &pulse)?;
-    let mut watch = Watch::new(wanted.source(rt, &[], 0), &pulse, reports, out, err);
+    let mut watch = Watch::new(wanted.copy_source(rt), &pulse, reports, out, err);
     let done = load_into(rt, wanted.db, summary.copy(), rows, &mut watch);
     let (done, watch) = wanted.unless_failed(done, watch)?;
     let stopped = wanted.stopped(rt.alloc(), watch.stop());
@@ -146,7 +146,7 @@ fn report_end<E: Write>(rt: &HostRuntime, pulse: &Pulse, size: u64, applied: u64
 /// What the end of a load comes to.
 fn outcome(alloc: Global, db: &str, name: &str, end: LoadEnd<RowsFault>) -> Result<(), Failure> {
     Err(match end {
-        LoadEnd::Changed(ChangeEnd::AllGiven) => return Ok(()),
+        LoadEnd::Changed(ChangeEnd::AllGiven) | LoadEnd::HadEnded => return Ok(()),
         LoadEnd::Refused(why) => of_unloadable(alloc, db, &why),
         LoadEnd::Changed(ChangeEnd::NotGiven(RowsFault::Copy(fault))) => {
             of_copy(alloc, name, &fault)

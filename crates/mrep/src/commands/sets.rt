@@ -3,16 +3,19 @@
 ghost use Rattle.std.specs.Prelude.{◌≡◌, IfOk};
 
 use crate::database::open::{closed, list_in, opened, opening};
-use crate::report::failure::{DONE, Failure, of_database, over_argument};
+use crate::report::failure::{DONE, Failure, of_database, over_argument, unusable};
 use clap::ArgMatches;
 use command_line::{parse_set, word};
 use formats::text_of;
 use gtid::GtidSet;
-use replica::{AdoptedFile, adopt_file};
-use reports::{ExecutedSet, MissingSet};
+use replica::{AdoptFault, AdoptedFile, adopt_file};
+use reports::{ExecutedSet, MissingSet, UNFINISHED};
 use sqlite_disk::Unknown;
 use std::alloc::Global;
 use std::io::Write;
+
+const BEGINS: &str =
+    "the set says that a first copy of tables has begun, and not that it has ended: adopt the whole set of the database that has it";
 
 /// Prints the executed set.
 pub fn gtids<W: Write>(
@@ -63,10 +66,19 @@ fn adopt_in(rt: &HostRuntime, db: &str, asked: &GtidSet) -> Result<GtidSet, Fail
     let files = closed(rt.alloc(), db, files);
     match added {
         Ok(added) => files.map(|()| added),
-        Err(cause) => {
+        Err(fault) => {
             drop(files);
-            Err(of_database(rt.alloc(), db, cause))
+            Err(unadopted(rt.alloc(), db, fault))
         }
+    }
+}
+
+/// Why a set was not added to the executed set of the database of this name.
+fn unadopted(alloc: Global, db: &str, fault: AdoptFault) -> Failure {
+    match fault {
+        AdoptFault::Failed(cause) => of_database(alloc, db, cause),
+        AdoptFault::Unfinished(_) => unusable(alloc, db, UNFINISHED),
+        AdoptFault::Begins(_) => unusable(alloc, db, BEGINS),
     }
 }
 

@@ -5,20 +5,20 @@ ghost use Rattle.gather.specs.View.{delivery_value};
 
 use crate::commands::clear::failure_of;
 use crate::database::open::{closed, opened, opening};
-use crate::report::failure::{DONE, Failure, MEMORY, of_database, of_skip, over_argument};
+use crate::report::failure::{DONE, Failure, MEMORY, of_database, of_skip, over_argument, unusable};
 use clap::ArgMatches;
 use command_line::{parse_gtid, word};
 use gather::{Changes, Delivery};
 use gtid::{Gtid, GtidSet};
 use replica::{ChangeEnd, ChangedFile, Observer, change_file};
-use reports::SkipWatch;
+use reports::{SkipStop, SkipWatch, UNFINISHED};
 use sqlite::File;
 use sqlite_disk::Unknown;
 use std::alloc::{AllocError, Global};
 use std::collections::VecDeque;
 use std::convert::Infallible;
 use std::io::Write;
-use typed_rows::{SkipError, SkipFeed};
+use typed_rows::SkipFeed;
 
 /// Records a GTID as executed, without changes, and prints whether it was new.
 pub fn skip<'a, W: Write>(
@@ -51,16 +51,22 @@ fn skip_in(
         closed: files,
     } = record(rt, db, gtid, &mut watch)?;
     let alloc = rt.alloc();
-    let fed = fed(alloc, feed, watch.stop());
+    let fed = fed(alloc, db, feed, watch.stop());
     fed.and(outcome(alloc, db, end))
         .and(closed(alloc, db, files))?;
     Ok(applied > 0)
 }
 
-/// Whether the change feed was written, if there is one.
-fn fed(alloc: Global, feed: Option<SkipFeed<'_>>, stop: Option<SkipError>) -> Result<(), Failure> {
+/// Whether no first copy is unfinished, and the change feed was written, if there is one.
+fn fed(
+    alloc: Global,
+    db: &str,
+    feed: Option<SkipFeed<'_>>,
+    stop: Option<SkipStop>,
+) -> Result<(), Failure> {
     match (feed, stop) {
-        (Some(feed), Some(error)) => Err(of_skip(alloc, feed.name, error)),
+        (_, Some(SkipStop::Unfinished)) => Err(unusable(alloc, db, UNFINISHED)),
+        (Some(feed), Some(SkipStop::Feed(error))) => Err(of_skip(alloc, feed.name, error)),
         _ => Ok(()),
     }
 }
@@ -92,7 +98,7 @@ fn without_changes(alloc: Global, gtid: Gtid) -> Result<VecDeque<Delivery>, Allo
 }
 
 /// Applies a transaction without changes to the database in a file, which is opened with its own filter.
-fn record<W: Observer>(
+pub fn record<W: Observer>(
     rt: &HostRuntime,
     db: &str,
     gtid: Gtid,
@@ -106,7 +112,7 @@ fn record<W: Observer>(
 }
 
 /// What the end of it comes to.
-fn outcome(alloc: Global, db: &str, end: ChangeEnd<Infallible>) -> Result<(), Failure> {
+pub fn outcome(alloc: Global, db: &str, end: ChangeEnd<Infallible>) -> Result<(), Failure> {
     match end {
         ChangeEnd::AllGiven => Ok(()),
         ChangeEnd::NotGiven(never) => match never {},

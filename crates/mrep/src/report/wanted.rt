@@ -2,7 +2,7 @@
 
 use crate::database::description::read_tables;
 use crate::report::failure::{
-    Failure, of_argument, of_file, of_misfit, of_system, over_argument, over_file,
+    Failure, of_argument, of_file, of_misfit, of_system, over_argument, over_file, unusable,
 };
 use binlog::Follow;
 use clap::ArgMatches;
@@ -10,7 +10,7 @@ use command_line::{ArgumentFault, parse_encoding, parse_set, parse_tables, word}
 use formats::{Chosen, Format, Progress};
 use gtid::GtidSet;
 use metrics::{Status, StatusFile};
-use reports::{Pulse, Reports, Source, Stop, Watch};
+use reports::{Pulse, Reports, Source, Stop, UNFINISHED, Watch};
 use std::alloc::Global;
 use std::io::{IsTerminal, Write};
 use typed_rows::{DescribedTables, Feed, OUTPUT};
@@ -93,6 +93,22 @@ impl<'g, 'a> Wanted<'g, 'a> {
             port,
             db: self.db,
             changes: self.feed_name(),
+            is_copy: false,
+        }
+    }
+
+    /// A first copy of tables, as it is wanted.
+    pub fn copy_source<'s>(&self, rt: &'s HostRuntime) -> Source<'s>
+    where
+        'a: 's,
+    {
+        Source {
+            rt,
+            streams: &[],
+            port: 0,
+            db: self.db,
+            changes: self.feed_name(),
+            is_copy: true,
         }
     }
 
@@ -246,6 +262,7 @@ impl<'g, 'a> Wanted<'g, 'a> {
             (Some(Stop::Misfit(misfit)), _) => {
                 Err(of_misfit(alloc, self.columns.unwrap_or(""), &misfit))
             }
+            (Some(Stop::Unfinished), _) => Err(unusable(alloc, self.db, UNFINISHED)),
         }
     }
 }

@@ -1,5 +1,5 @@
-use Rattle.first_copy.proofs.TextRows.{loaded}
+use Rattle.first_copy.proofs.TextRows.{loaded_all}
 use Rattle.first_copy.proofs.laws.loaded.Goals as goal
 
 pub returns : goal.returns
-returns c names tables source text old new ids ds n all admitted none applies = loaded names tables source text old new ids ds n all.1 admitted none applies
+returns c names tables source text old new ids ds n all few admitted none applies = loaded_all names tables source text old new ids ds all.0 n all.1.1 all.2 few admitted none applies

@@ -7,7 +7,7 @@ use Rattle.replica.proofs.cleared_file.clear_file.Goals as goal
 
 pub returns-clause-clears : goal.returns-clause-clears
 returns-clause-clears g c names content files =
-    cleared_into _ names content c.in_ok-store.store c.clear-end.new.store (clear_of c.args.schema.now c.args.table.now c.args.gtid) c.clear-end.result c.close_file-closed.result
+    cleared_into _ names content c.in_ok-store.store c.clear-end.new.store (clear_of c.args.schema.now c.args.table.now c.args.gtid c.args.at.now) c.clear-end.result c.close_file-closed.result
     c.clear-end.ensures.keeps.following (λ clean. let o = c.in_ok-store.ensures.opens (c.clear-end.ensures.keeps.clean clean) names content files in (o.0, o.1)) c.clear-end.ensures.clears
     c.close_file-closed.ensures.copied c.close_file-closed.ensures.err
 

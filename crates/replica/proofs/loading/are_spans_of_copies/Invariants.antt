@@ -1,7 +1,7 @@
 use Rattle.std.proofs.Common.{◌≡◌}
 use Rattle.std.specs.List.{list_all}
 use Rattle.gtid.specs.declared.span.Span.{Span}
-use Rattle.replica.specs.Copies.{is_of_copy}
+use Rattle.replica.specs.Marks.{is_of_copy}
 use Rattle.replica.proofs.loading.are_spans_of_copies.Given as goal
 
 abbrev pub invariant-loop-span : goal.invariant-loop-span
