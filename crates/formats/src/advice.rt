@@ -27,9 +27,6 @@ const NO_COMPRESSION: &str = "the source has to run with binlog_transaction_comp
 
 const NO_TAGS: &str = "GTIDs with tags are not supported: keep gtid_next without a tag";
 
-const ROWS: &str =
-    "the source has to run with binlog_format = ROW; a definition of a table or an account may be left out if it changes no rows";
-
 const GTIDS: &str = "the source has to run with gtid_mode = ON";
 
 /// What to do about an event that is not read, if there is something besides what the fault says.
@@ -41,7 +38,6 @@ pub fn event_advice(fault: EventFaultKind) -> Option<&'static str> {
         EventFaultKind::TypeCode(PARTIAL_UPDATE) => Some(NO_PARTIAL_UPDATES),
         EventFaultKind::TypeCode(COMPRESSED) => Some(NO_COMPRESSION),
         EventFaultKind::TypeCode(TAGGED_GTID) => Some(NO_TAGS),
-        EventFaultKind::Statement => Some(ROWS),
         EventFaultKind::Anonymous => Some(GTIDS),
         _ => None,
     }

@@ -3,6 +3,7 @@
 use crate::cells::write_first_cells;
 use crate::name::{Shown, write_escaped, write_table};
 use crate::quoted::Quoted;
+use crate::statement::Statement;
 use binlog::{ColumnPlace, EventFault, EventFaultKind, TableDef};
 use gather::{Change, ImageRef};
 use gtid::Gtid;
@@ -12,6 +13,12 @@ use std::io::Write;
 
 /// How much of a statement or a row is printed in a message, in bytes.
 pub const SHOWN: usize = 512;
+
+const ROWS: &[u8] = b"the source has to run with binlog_format = ROW";
+
+const SKIP: &str = "to leave it out, and lose the rows it has";
+
+const SKIP_DEFINITION: &str = "to leave it out, if it changes no followed table";
 
 /// The words of SQL before a password or its hash (MySQL Reference Manual, "CREATE USER Statement", "SET PASSWORD
 /// Statement").
@@ -24,6 +31,8 @@ pub struct Details {
     pub gtid: Option<Gtid>,
     /// Lines about its end, each with a line feed after it.
     pub lines: Vec<u8>,
+    /// What the statement is that ended the connection, if one did.
+    statement: Option<Statement>,
 }
 
 impl Details {
@@ -32,11 +41,15 @@ impl Details {
         Details {
             gtid: None,
             lines: Vec::new(alloc),
+            statement: None,
         }
     }
 
     /// Notes the event that ends a connection, and its fault. What does not fit into memory is left out.
     pub fn refuse_event(&mut self, event: &[u8], fault: EventFault) {
+        if fault.kind == EventFaultKind::Statement {
+            self.statement = Some(Statement::of(event.get(fault.at..).unwrap_or(&[])));
+        }
         let _ = write_fault(fault, event, &mut self.lines);
     }
 
@@ -58,17 +71,40 @@ impl Details {
         for line in self.lines.split(|byte| *byte == b'\n') {
             write_noted(stream, line, err)?;
         }
+        if self.statement == Some(Statement::Rows) {
+            write_noted(stream, ROWS, err)?;
+        }
         match self.gtid {
-            Some(gtid) => write_transaction(stream, db, gtid, can_skip, err),
+            Some(gtid) => write_transaction(stream, db, gtid, self.ways(can_skip), err),
             None => Ok(()),
+        }
+    }
+
+    /// What can be done about the transaction, if it is what stands in the way.
+    fn ways(&self, can_skip: bool) -> Ways {
+        match self.statement {
+            _ if !can_skip => Ways::None,
+            Some(Statement::Definition) => Ways::SkipOrClear,
+            _ => Ways::Skip,
         }
     }
 
     /// Forgets all.
     pub fn clear(&mut self) {
         self.gtid = None;
+        self.statement = None;
         self.lines.clear();
     }
+}
+
+/// What can be done about a transaction.
+#[derive(Clone, Copy)]
+enum Ways {
+    None,
+    /// It is left out, with its rows.
+    Skip,
+    /// It is left out if it changes no followed table; if it does, the table is cleared.
+    SkipOrClear,
 }
 
 /// Writes what a message about a stream begins with.
@@ -86,23 +122,44 @@ fn write_noted<E: Write>(stream: &str, line: &[u8], err: &mut E) -> io::Result<(
     err.write_all(b"\n")
 }
 
-/// Writes the transaction at hand, and how it can be left out, if it can be.
+/// Writes the transaction at hand, and what can be done about it.
 fn write_transaction<E: Write>(
     stream: &str,
     db: &str,
     gtid: Gtid,
-    can_skip: bool,
+    ways: Ways,
     err: &mut E,
 ) -> io::Result<()> {
     write_begin(stream, err)?;
     writeln!(err, "in transaction {gtid}")?;
-    if !can_skip {
-        return Ok(());
+    match ways {
+        Ways::None => Ok(()),
+        Ways::Skip => write_skip(stream, SKIP, db, gtid, err),
+        Ways::SkipOrClear => {
+            write_skip(stream, SKIP_DEFINITION, db, gtid, err)?;
+            write_clear(stream, db, gtid, err)
+        }
     }
+}
+
+/// Writes how a transaction is left out, and what that is for.
+fn write_skip<E: Write>(
+    stream: &str,
+    purpose: &str,
+    db: &str,
+    gtid: Gtid,
+    err: &mut E,
+) -> io::Result<()> {
+    write_begin(stream, err)?;
+    writeln!(err, "{purpose}: mrep skip --db {} {gtid}", Quoted(db))
+}
+
+/// Writes how a table is cleared whose rows a statement has changed.
+fn write_clear<E: Write>(stream: &str, db: &str, gtid: Gtid, err: &mut E) -> io::Result<()> {
     write_begin(stream, err)?;
     writeln!(
         err,
-        "to leave it out, and lose the rows it has: mrep skip --db {} {gtid}",
+        "if it alters or empties a followed table: mrep clear --db {} --gtid {gtid} SCHEMA.TABLE, and then mrep load where the table has rows",
         Quoted(db)
     )
 }

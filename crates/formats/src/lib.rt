@@ -24,6 +24,7 @@ mod output_format;
 mod progress;
 mod quoted;
 mod set_text;
+mod statement;
 mod tallies;
 mod type_text;
 
