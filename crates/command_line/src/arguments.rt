@@ -8,7 +8,7 @@ ghost use Rattle.command_line.specs.declared.arguments.ArgumentFault.TheVariants
 
 use binlog::Follow;
 use clap::ArgMatches;
-use formats::{Encoding, Format, Shown, encoding_of, read_table, write_named};
+use formats::{Encoding, Format, Shown, encoding_of, read_table, write_escaped, write_named};
 use gtid::{Gtid, GtidFault, GtidSet};
 use hex::FromHex;
 use std::alloc::{AllocError, AllocFailed, Global};
@@ -17,6 +17,13 @@ use std::io::Write;
 
 const NO_GTID: &str =
     "not a GTID: expected a hyphenated UUID, `:` and a number from 1 to 9223372036854775806";
+
+/// What is said besides of a set that is given where a GTID is.
+const ONE_GTID: &str = "one transaction is recorded; mrep adopt takes a set";
+
+/// What is said besides of a set as `mysql` prints it.
+const LINE_FEEDS: &str =
+    "it has line feeds: mysql -Nre 'SELECT @@GLOBAL.gtid_executed' | tr -d '\\n' prints a set without";
 
 const NO_TABLE: &str =
     "not a table: expected SCHEMA.TABLE, with `%` only before two hexadecimal digits";
@@ -34,18 +41,37 @@ const NO_COLUMNS: &[u8] = b"mrep: --format tsv and sql need --columns\n";
 /// Why arguments are not what they should be.
 #[derive(Drop)]
 pub enum ArgumentFault<'a> {
-    /// The argument with this name is not the text of a GTID set.
-    Set { word: &'a str, cause: GtidFault },
-    /// The argument with this name is not a GTID.
-    Gtid { word: &'a str },
+    /// The argument with this name is not the text of a GTID set. Which byte is wrong, if one is, and whether the text has line
+    /// feeds.
+    Set {
+        word: &'a str,
+        cause: GtidFault,
+        wrong: Option<u8>,
+        has_line_feeds: bool,
+    },
+    /// The argument with this name is not a GTID. Whether it may be a set.
+    Gtid {
+        word: &'a str,
+        may_be_set: bool,
+    },
     /// This argument is not the name of a table.
-    Table { word: &'a str },
+    Table {
+        word: &'a str,
+    },
     /// This argument is not the name of a schema.
-    Schema { word: &'a str },
+    Schema {
+        word: &'a str,
+    },
     /// The argument with this name is not a SHA-1.
-    Digest { word: &'a str },
-    /// This argument is not a number from 1 to the largest.
-    Number { word: &'a str, largest: u32 },
+    Digest {
+        word: &'a str,
+    },
+    /// The argument of this option is not a number from 1 to the largest.
+    Number {
+        option: &'a str,
+        word: &'a str,
+        largest: u32,
+    },
     /// A form of bytes is asked for, and the format has one form alone.
     Bytes,
     /// A format is asked for whose rows need names and types, and no description is given.
@@ -58,15 +84,24 @@ impl ArgumentFault<'_> {
     /// Writes the message.
     pub fn write<E: Write>(&self, err: &mut E) -> io::Result<()> {
         match self {
-            ArgumentFault::Set { word, cause } => write_named(word, cause, err),
-            ArgumentFault::Gtid { word } => write_named(word, &NO_GTID, err),
+            ArgumentFault::Set {
+                word,
+                cause,
+                wrong,
+                has_line_feeds,
+            } => write_set(word, *cause, *wrong, *has_line_feeds, err),
+            ArgumentFault::Gtid { word, may_be_set } => write_gtid(word, *may_be_set, err),
             ArgumentFault::Table { word } => write_named(word, &NO_TABLE, err),
             ArgumentFault::Schema { word } => write_named(word, &NO_SCHEMA, err),
             ArgumentFault::Digest { word } => write_named(word, &NO_DIGEST, err),
-            ArgumentFault::Number { word, largest } => {
+            ArgumentFault::Number {
+                option,
+                word,
+                largest,
+            } => {
                 writeln!(
                     err,
-                    "mrep: {}: not a number from 1 to {largest}",
+                    "mrep: {option}: {}: not a number from 1 to {largest}",
                     Shown(word)
                 )
             }
@@ -75,6 +110,36 @@ impl ArgumentFault<'_> {
             ArgumentFault::Memory => err.write_all(b"mrep: out of memory\n"),
         }
     }
+}
+
+/// Writes why a text is not that of a set.
+fn write_set<E: Write>(
+    word: &str,
+    cause: GtidFault,
+    wrong: Option<u8>,
+    has_line_feeds: bool,
+    err: &mut E,
+) -> io::Result<()> {
+    write!(err, "mrep: {}: {cause}", Shown(word))?;
+    if let Some(byte) = wrong {
+        err.write_all(b", where `")?;
+        write_escaped(&[byte], err)?;
+        err.write_all(b"` stands")?;
+    }
+    writeln!(err)?;
+    if has_line_feeds {
+        return write_named(word, &LINE_FEEDS, err);
+    }
+    Ok(())
+}
+
+/// Writes that a text is not that of a GTID.
+fn write_gtid<E: Write>(word: &str, may_be_set: bool, err: &mut E) -> io::Result<()> {
+    write_named(word, &NO_GTID, err)?;
+    if may_be_set {
+        return write_named(word, &ONE_GTID, err);
+    }
+    Ok(())
 }
 
 impl From<AllocError> for ArgumentFault<'_> {
@@ -105,17 +170,39 @@ pub fn parse_set<'a>(alloc: Global, word: &'a str, text: &str) -> Result<GtidSet
     match GtidSet::parse(alloc, text) {
         Ok(set) => Ok(set),
         Err(GtidFault::Memory) => Err(ArgumentFault::Memory),
-        Err(cause) => Err(ArgumentFault::Set { word, cause }),
+        Err(cause) => Err(set_fault(word, text, cause)),
     }
 }
 
-/// A number from 1 to the largest, in decimal digits.
-pub fn parse_number<'a>(word: &'a str, largest: u32) -> Result<u32, ArgumentFault<'a>>
+/// The fault of a text that is not that of a set.
+fn set_fault<'a>(word: &'a str, text: &str, cause: GtidFault) -> ArgumentFault<'a> {
+    let wrong = match cause {
+        GtidFault::Text(at) => text.as_bytes().get(at).copied(),
+        _ => None,
+    };
+    ArgumentFault::Set {
+        word,
+        cause,
+        wrong,
+        has_line_feeds: text.contains('\n') || text.contains("\\n"),
+    }
+}
+
+/// A number from 1 to the largest, in decimal digits, as an option has it.
+pub fn parse_number<'a>(
+    option: &'a str,
+    word: &'a str,
+    largest: u32,
+) -> Result<u32, ArgumentFault<'a>>
     ensures { IfOk result (λ n. (1 ≤ n) × (n ≤ largest)) }
 {
     match word.parse::<u32>() {
         Ok(number) if number >= 1 && number <= largest && !word.starts_with('+') => Ok(number),
-        _ => Err(ArgumentFault::Number { word, largest }),
+        _ => Err(ArgumentFault::Number {
+            option,
+            word,
+            largest,
+        }),
     }
 }
 
@@ -155,7 +242,10 @@ pub fn parse_schema<'a>(alloc: Global, word: &'a str) -> Result<Vec<u8>, Argumen
 pub fn parse_gtid<'a>(word: &'a str, text: &str) -> Result<Gtid, ArgumentFault<'a>> {
     match Gtid::parse(text) {
         Some(gtid) => Ok(gtid),
-        None => Err(ArgumentFault::Gtid { word }),
+        None => Err(ArgumentFault::Gtid {
+            word,
+            may_be_set: text.contains(':'),
+        }),
     }
 }
 

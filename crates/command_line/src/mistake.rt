@@ -1,6 +1,6 @@
 //! Mistakes in the arguments.
 
-use crate::table::grammar;
+use crate::table::{Argument, CommandRow, commands, grammar};
 use clap::Command;
 use clap::error::ErrorKind;
 use formats::Shown;
@@ -47,4 +47,92 @@ fn texts_of<S: AsStr>(alloc: Global, words: &[S]) -> Result<Vec<String>, AllocEr
         texts.push(format!(in alloc; "{}", Shown(word.as_str()))?)?;
     }
     Ok(texts)
+}
+
+/// What a command is called elsewhere, and what to type.
+const ELSEWHERE: [(&str, &str); 20] = [
+    ("version", "mrep --version"),
+    (
+        "status",
+        "mrep tables --db F, mrep gtids --db F, or follow --status FILE",
+    ),
+    ("info", "mrep tables --db F and mrep gtids --db F"),
+    ("start", "mrep follow"),
+    ("run", "mrep follow"),
+    ("sync", "mrep follow"),
+    ("watch", "mrep follow --changes -"),
+    ("tail", "mrep follow --changes -"),
+    ("stream", "mrep follow --changes -"),
+    ("init", "mrep replay --db F --only SCHEMA.TABLE /dev/null"),
+    ("create", "mrep replay --db F --only SCHEMA.TABLE /dev/null"),
+    ("snapshot", "mrep select, the mysql client, and mrep load"),
+    (
+        "import",
+        "mrep load, of what the statements of mrep select print",
+    ),
+    (
+        "restore",
+        "mrep load, or a file of mrep copy under the name of the database",
+    ),
+    ("backup", "mrep copy --db F TO"),
+    (
+        "dump",
+        "mrep show --db F, or mrep export for an SQLite file",
+    ),
+    (
+        "query",
+        "mrep export, and sqlite3 with the file that it makes",
+    ),
+    (
+        "sql",
+        "mrep export, and sqlite3 with the file that it makes",
+    ),
+    ("ls", "mrep tables --db F"),
+    ("diff", "mrep verify"),
+];
+
+const DATABASE: &str = "the database is given by --db: --db F";
+
+const PASSWORD: &str =
+    "a password is given in a file, by --password-file W, or as password=.. in the section [client] of ~/.my.cnf";
+
+/// What to type, of words that are no command line, if that is known.
+pub fn tip<S: AsStr>(words: &[S]) -> Option<&'static str> {
+    let [_, name, rest @ ..] = words else {
+        return None;
+    };
+    let name = name.as_str();
+    for (other, typed) in ELSEWHERE {
+        if name == other {
+            return Some(typed);
+        }
+    }
+    if name == "follow" && rest.iter().any(|word| is_password(word.as_str())) {
+        return Some(PASSWORD);
+    }
+    if takes_database(name) && !rest.iter().any(|word| word.as_str().starts_with("--db")) {
+        return Some(DATABASE);
+    }
+    None
+}
+
+/// Whether a word is the option of a password, as the clients of MySQL have it.
+fn is_password(word: &str) -> bool {
+    word == "--password"
+        || word.starts_with("--password=")
+        || (word.starts_with("-p") && !word.starts_with("--"))
+}
+
+/// Whether a command of this name takes a database.
+fn takes_database(name: &str) -> bool {
+    for rows in commands() {
+        for CommandRow(command, _, arguments, _) in rows {
+            if *command == name {
+                return arguments
+                    .iter()
+                    .any(|Argument(argument, ..)| *argument == "db");
+            }
+        }
+    }
+    false
 }

@@ -8,10 +8,11 @@ use std::alloc::{AllocError, Global};
 const VERSION: &str = "0.1.0";
 
 /// What `mrep --version` prints: the version, the revision, the layouts of databases, and the identity of the toolchain, as
-/// `rt version` prints it. The words after `revision` stand in the program as they do here, and `make` puts the revision in
-/// their place, since a program whose text changed with each revision would be proved with each.
+/// `rt version` prints it. The words after `revision` stand in the program as they do here, and `make` puts the revision
+/// instead of them, since a program whose text changed with each revision would be proved with each; and `proved with`
+/// instead of `compiled by` once it is proved.
 const LONG_VERSION: &str =
-    "0.1.0\nrevision unknown: it is stated by `make` in a git clone.\nlayout 2; a database of layout 1 is migrated\nproved with rattle-kit-13f logic dac8208d650f15bf";
+    "0.1.0\nrevision unknown: it is stated by `make` in a git clone.\nlayout 2; a database of layout 1 is migrated\ncompiled by rattle-kit-13f logic dac8208d650f15bf";
 
 /// The shells that `mrep completions` knows.
 const SHELLS: [&str; 3] = ["bash", "zsh", "fish"];
@@ -27,8 +28,6 @@ pub enum Kind {
     Words,
     /// A required option with a value of this name.
     Needed(&'static str),
-    /// An option with a value of this name, and what it is without the option.
-    Usual(&'static str, &'static str),
     /// A required option with a value of this name, which may begin with a hyphen.
     NeededText(&'static str),
     /// An option with a value of this name, which may begin with a hyphen.
@@ -59,7 +58,6 @@ impl Kind {
     pub fn value(self) -> Option<&'static str> {
         match self {
             Kind::Needed(value)
-            | Kind::Usual(value, _)
             | Kind::NeededText(value)
             | Kind::Text(value)
             | Kind::Repeated(value)
@@ -227,23 +225,28 @@ static READING: [CommandRow; 5] = [
             DB,
             Argument(
                 "host",
-                Kind::Needed("H"),
-                "The source's host name or address; an IPv6 address may stand in brackets",
+                Kind::Text("H"),
+                "The source's host name or address; an IPv6 address may stand in brackets. Also -h H. Without it: host of the option file, or MYSQL_HOST",
             ),
             Argument(
                 "port",
-                Kind::Usual("P", "3306"),
-                "The source's port, from 1 to 65535",
+                Kind::Text("P"),
+                "The source's port, from 1 to 65535. Also -P P. Without it: port of the option file, MYSQL_TCP_PORT, or 3306",
             ),
             Argument(
                 "user",
-                Kind::NeededText("U"),
-                "The name of the replication account",
+                Kind::Text("U"),
+                "The name of the replication account. Also -u U. Without it: user of the option file",
             ),
             Argument(
                 "password-file",
-                Kind::NeededText("W"),
-                "The file with the password; one line feed at its end is ignored",
+                Kind::Text("W"),
+                "The file with the password, or `-` for standard input; one line feed at its end is ignored. Without it: password of the option file, or MYSQL_PWD",
+            ),
+            Argument(
+                "defaults-file",
+                Kind::Text("FILE"),
+                "The option file, of which the sections [client] and [mrep] are read. Without it: ~/.my.cnf, if it is there",
             ),
             Argument(
                 "server-id",
@@ -520,7 +523,6 @@ fn arg_of<'a>(alloc: Global, row: &Argument) -> Arg<'a> {
         Kind::Words => arg.num_args(1..),
         Kind::Flag => arg.long(name),
         Kind::OneOf(value, words) => arg.long(name).value_name(value).value_parser(words),
-        Kind::Usual(value, usual) => arg.long(name).value_name(value).default_value(usual),
         Kind::Needed(value) | Kind::NeededText(value) | Kind::Text(value) | Kind::Repeated(value) =>
             arg.long(name).value_name(value),
     }

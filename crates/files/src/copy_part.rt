@@ -3,7 +3,7 @@
 use crate::fault::FileFault;
 use crate::names::{EXISTS, Names};
 use crate::part_file::{Claim, Leftover, begin, give_name, remove};
-use crate::sqlite_file::is_database;
+use crate::sqlite_file::may_be_left;
 use crate::what_is_named::private;
 use std::fs::File;
 use std::os::unix::fs::FileExt;
@@ -17,12 +17,12 @@ const IN_USE: &str =
 
 const NO_COPY: &str = "the file with .part after this name exists and is no copy: remove it";
 
-/// A copy that a killed process has left: it is empty, or begins as an SQLite file.
+/// A copy that a killed process or a crash has left.
 struct LeftCopy;
 
 impl Leftover for LeftCopy {
     fn is_left(rt: &HostRuntime, name: &str) -> io::Result<bool> {
-        Ok(fs::metadata(rt, name)?.len() == 0 || is_database(rt, name)?)
+        may_be_left(rt, name)
     }
 }
 

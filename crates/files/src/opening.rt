@@ -2,7 +2,7 @@
 
 use crate::fault::FileFault;
 use crate::name_lock::{NameLock, lock_shared};
-use crate::sqlite_file::{has_frames, is_special};
+use crate::sqlite_file::{NO_DATABASE, has_frames, is_special};
 use std::alloc::AllocError;
 use std::fs::OpenOptions;
 use std::io::ErrorKind;
@@ -12,6 +12,11 @@ const READ_ONLY: &str =
     "the file may only be read, and each command locks it for writing and keeps a WAL file beside it";
 
 const NO_FILE: &str = "not the name of a file to SQLite: put ./ before it";
+
+const NO_TARGET: &str = "it is a link to a file that is not there";
+
+/// How long the header of a database file is (SQLite, "Database File Format", section 1.3).
+const HEADER: u64 = 100;
 
 const NOT_USABLE: &str =
     "unable to open database file: it has several names or is no file, sqlite3 has left a journal, or its WAL file or folder cannot be written";
@@ -24,8 +29,12 @@ pub struct Opening {
 }
 
 impl Opening {
-    /// Locks the name of a database that is to be opened. A file that is not there is made.
+    /// Locks the name of a database that is to be opened. A file that is not there is made. One with bytes and without a whole
+    /// header is no database, and stays as it is.
     pub fn begin(rt: &HostRuntime, name: &str) -> Result<Opening, FileFault> {
+        if is_cut(rt, name) {
+            return Err(FileFault::Unusable(NO_DATABASE));
+        }
         let lock = lock_shared(rt, name)?;
         match missing_wal(rt, name) {
             Ok(wal) => Ok(Opening { lock, wal }),
@@ -34,6 +43,14 @@ impl Opening {
                 Err(FileFault::Memory)
             }
         }
+    }
+}
+
+/// Whether a regular file has bytes, and fewer than the header of a database.
+fn is_cut(rt: &HostRuntime, name: &str) -> bool {
+    match fs::metadata(rt, name) {
+        Ok(metadata) => metadata.is_file() && metadata.len() > 0 && metadata.len() < HEADER,
+        Err(_) => false,
     }
 }
 
@@ -70,6 +87,7 @@ pub fn opening_fault(rt: &HostRuntime, path: &str) -> FileFault {
         Err(cause) if is_protected(cause.kind()) && fs::open(rt, path).is_ok() => {
             FileFault::Unusable(READ_ONLY)
         }
+        Err(cause) if cause.kind() == ErrorKind::AlreadyExists => FileFault::Unusable(NO_TARGET),
         Err(cause) => FileFault::System(cause),
     }
 }

@@ -1,6 +1,7 @@
 //! The file that has the password of an account.
 
 use crate::fault::FileFault;
+use crate::input::Input;
 use std::fs;
 use std::io::Read;
 use std::os::unix::fs::MetadataExt;
@@ -13,11 +14,12 @@ const NO_PASSWORD: &str = "a password has at most 65,536 bytes";
 /// The bits of a file's mode by which its group and others may read it.
 const OTHERS_READ: u32 = 0o044;
 
-/// The bytes of a file with a password. More than a password and a line feed may have are refused.
+/// The bytes of a file with a password, or of standard input. More than a password and a line feed may have are refused.
 pub fn read_password(rt: &HostRuntime, name: &str) -> Result<Vec<u8>, FileFault> {
     let mut bytes = Vec::new(rt.alloc());
     let most = LONGEST_PASSWORD + 1;
-    fs::open(rt, name)?.take(most + 1).read_to_end(&mut bytes)?;
+    let input = Input::open(rt, name)?;
+    input.take(most + 1).read_to_end(&mut bytes)?;
     if bytes.len() as u64 > most {
         return Err(FileFault::Unusable(NO_PASSWORD));
     }

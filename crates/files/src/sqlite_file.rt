@@ -2,7 +2,8 @@
 
 use crate::unsupported::unsupported_in;
 use crate::what_is_named::read_head;
-use std::io;
+use std::os::unix::fs::FileExt;
+use std::{fs, io};
 
 /// How an SQLite file begins (section 1.3).
 pub const MAGIC: [u8; 16] = *b"SQLite format 3\0";
@@ -13,7 +14,7 @@ const FIRST_PAGE: usize = 32;
 
 const FIRST_PAGE_END: usize = FIRST_PAGE + 4;
 
-const NO_DATABASE: &str = "not an SQLite database";
+pub const NO_DATABASE: &str = "not an SQLite database";
 
 const DAMAGED: &str =
     "the database is damaged: its pages or its schema cannot be read, or a row does not obey it";
@@ -26,6 +27,23 @@ pub fn is_special(name: &str) -> bool {
 /// Whether a file begins as an SQLite file.
 pub fn is_database(rt: &HostRuntime, name: &str) -> io::Result<bool> {
     Ok(read_head::<16>(rt, name)? == Some(MAGIC))
+}
+
+/// Whether a file is what is left of an SQLite file: it begins as one, but for bytes that are zeros or missing. A killed
+/// export leaves its first byte zero, and a power failure sectors.
+pub fn may_be_left(rt: &HostRuntime, name: &str) -> io::Result<bool> {
+    let file = fs::open(rt, name)?;
+    let mut found = [0u8; MAGIC.len()];
+    let there = file.metadata()?.len().min(MAGIC.len() as u64);
+    if let Some(found) = found.get_mut(..there as usize) {
+        file.read_exact_at(found, 0)?;
+    }
+    Ok(
+        found
+            .iter()
+            .zip(MAGIC.iter())
+            .all(|(it, whole)| *it == *whole || *it == 0),
+    )
 }
 
 /// Whether a WAL file has a first frame: its page number is there and is not 0.

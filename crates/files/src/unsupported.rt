@@ -33,6 +33,11 @@ const INTERIOR: u8 = 5;
 /// How the text of a virtual table begins in the schema.
 const VIRTUAL: &[u8] = b"CREATE VIRTUAL TABLE";
 
+/// How the text of a table of this program begins, in each layout, and that of any table.
+const OWN: &[u8] = b"CREATE TABLE held";
+
+const ANY: &[u8] = b"CREATE TABLE ";
+
 const HAS_AUTO_VACUUM: &str =
     "a database with auto_vacuum is not supported: in sqlite3, PRAGMA auto_vacuum = 0 and VACUUM take it away";
 
@@ -63,10 +68,35 @@ fn find(rt: &HostRuntime, path: &str) -> io::Result<Option<&'static str>> {
     if head[RESERVED] != 0 {
         return Ok(Some(HAS_RESERVED));
     }
-    if has_virtual_table(rt, &file, &head)? {
+    if has_in_schema(rt, &file, &head, VIRTUAL)? {
         return Ok(Some(HAS_VIRTUAL));
     }
     Ok(None)
+}
+
+/// Whose tables a database file has, without those that stand in its WAL file alone.
+#[derive(Clone, Copy, PartialEq, Eq)]
+pub enum Owner {
+    /// It has tables of this program.
+    This,
+    /// It has others, and none of this program.
+    Other,
+    /// It has none.
+    Nobody,
+}
+
+/// Whose tables a database file has, by the statements that have made them.
+pub fn owner_of(rt: &HostRuntime, path: &str) -> io::Result<Owner> {
+    let file = fs::open(rt, path)?;
+    let mut head = [0u8; HEAD];
+    file.read_exact_at(&mut head, 0)?;
+    if has_in_schema(rt, &file, &head, OWN)? {
+        return Ok(Owner::This);
+    }
+    if has_in_schema(rt, &file, &head, ANY)? {
+        return Ok(Owner::Other);
+    }
+    Ok(Owner::Nobody)
 }
 
 /// The number of four bytes at a place of a page.
@@ -85,8 +115,13 @@ fn short_at(page: &[u8], at: usize) -> usize {
     }
 }
 
-/// Whether a page of the schema has a virtual table: its first page, or one of those directly below it.
-fn has_virtual_table(rt: &HostRuntime, file: &File, head: &[u8; HEAD]) -> io::Result<bool> {
+/// Whether a page of the schema has a text: its first page, or one of those directly below it.
+fn has_in_schema(
+    rt: &HostRuntime,
+    file: &File,
+    head: &[u8; HEAD],
+    text: &[u8],
+) -> io::Result<bool> {
     let size = match short_at(head, PAGE_SIZE) {
         1 => 65_536,
         size => size,
@@ -94,7 +129,7 @@ fn has_virtual_table(rt: &HostRuntime, file: &File, head: &[u8; HEAD]) -> io::Re
     let mut first = vec![in rt.alloc(); 0u8; size]?;
     file.read_exact_at(&mut first, 0)?;
     if head[TREE] != INTERIOR {
-        return Ok(has_text(&first));
+        return Ok(has_text(&first, text));
     }
     let mut page = vec![in rt.alloc(); 0u8; size]?;
     let cells = short_at(head, CELLS);
@@ -109,14 +144,14 @@ fn has_virtual_table(rt: &HostRuntime, file: &File, head: &[u8; HEAD]) -> io::Re
             &mut page,
             child.saturating_sub(1).saturating_mul(size as u64),
         )?;
-        if has_text(&page) {
+        if has_text(&page, text) {
             return Ok(true);
         }
     }
     Ok(false)
 }
 
-/// Whether a page has the beginning of a virtual table's text.
-fn has_text(page: &[u8]) -> bool {
-    page.windows(VIRTUAL.len()).any(|text| text == VIRTUAL)
+/// Whether a page has a text.
+fn has_text(page: &[u8], text: &[u8]) -> bool {
+    page.windows(text.len().max(1)).any(|part| part == text)
 }

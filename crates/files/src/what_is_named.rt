@@ -1,9 +1,16 @@
 //! What a name leads to, and the first bytes of a file.
 
+use std::alloc::AllocError;
 use std::fs::{File, OpenOptions};
 use std::io::{ErrorKind, Read};
 use std::os::unix::fs::{MetadataExt, OpenOptionsExt};
 use std::{fs, io};
+
+/// What is put after the name of a database in those of files beside it.
+const BESIDE: [&str; 4] = ["-wal", "-journal", "-shm", ".new"];
+
+/// How a file of a binary log begins.
+const LOG_FILE: [u8; 4] = *b"\xfebin";
 
 /// The mode of a file that is made for the rows of others: its owner alone may read and write it.
 pub const PRIVATE: u32 = 0o600;
@@ -19,14 +26,6 @@ pub fn private() -> OpenOptions {
 pub fn is_file(rt: &HostRuntime, name: &str) -> bool {
     match fs::metadata(rt, name) {
         Ok(metadata) => metadata.is_file(),
-        Err(_) => false,
-    }
-}
-
-/// Whether a name leads to a file that has bytes.
-pub fn has_bytes(rt: &HostRuntime, name: &str) -> bool {
-    match fs::metadata(rt, name) {
-        Ok(metadata) => metadata.len() > 0,
         Err(_) => false,
     }
 }
@@ -51,6 +50,48 @@ pub fn lead_to_one(rt: &HostRuntime, name: &str, other: &str) -> bool {
         (Ok(one), Ok(two)) => one.dev() == two.dev() && one.ino() == two.ino(),
         _ => false,
     }
+}
+
+/// Whether a name is one that a file beside a database has, be it there or not: one that SQLite gives, or that of a new
+/// database until it is whole.
+pub fn is_beside(rt: &HostRuntime, name: &str, db: &str) -> Result<bool, AllocError> {
+    let (Some(place), Some(database)) = (place_of(rt, name)?, place_of_database(rt, db)?) else {
+        return Ok(false);
+    };
+    for suffix in BESIDE {
+        let beside = format!(in rt.alloc(); "{database}{suffix}")?;
+        if beside.as_str() == place.as_str() {
+            return Ok(true);
+        }
+    }
+    Ok(false)
+}
+
+/// The place of a database file, that of its target if it is a link.
+fn place_of_database(rt: &HostRuntime, db: &str) -> Result<Option<String>, AllocError> {
+    match fs::canonicalize(rt, db) {
+        Ok(real) => Ok(Some(format!(in rt.alloc(); "{}", real.as_str())?)),
+        Err(_) => place_of(rt, db),
+    }
+}
+
+/// A name after the real one of its folder, if that is there.
+pub(crate) fn place_of(rt: &HostRuntime, name: &str) -> Result<Option<String>, AllocError> {
+    let (folder, leaf) = match name.rsplit_once('/') {
+        Some(("", leaf)) => ("/", leaf),
+        Some(parts) => parts,
+        None => (".", name),
+    };
+    match fs::canonicalize(rt, folder) {
+        Ok(real) if real.as_str() == "/" => Ok(Some(format!(in rt.alloc(); "/{leaf}")?)),
+        Ok(real) => Ok(Some(format!(in rt.alloc(); "{}/{leaf}", real.as_str())?)),
+        Err(_) => Ok(None),
+    }
+}
+
+/// Whether a file is a binary log of MySQL, by its first bytes (MySQL Source Documentation, "Binary Log Header").
+pub fn is_log_file(rt: &HostRuntime, name: &str) -> bool {
+    is_file(rt, name) && matches!(read_head::<4>(rt, name), Ok(Some(LOG_FILE)))
 }
 
 /// Whether an open file has no bytes.

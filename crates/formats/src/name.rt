@@ -13,8 +13,8 @@ use std::{fmt, io};
 /// The character that begins a byte written as two digits.
 const MARK: u8 = b'%';
 
-/// A file, a host or another argument in a message: a control character and the backslash are printed as `\x` and two
-/// hexadecimal digits, every other character as it is.
+/// A file, a host or another argument in a message: a control character, one that turns the direction of a text, and the
+/// backslash are printed as `\x` and hexadecimal digits, every other character as it is.
 #[derive(Clone, Copy)]
 pub struct Shown<'a>(pub &'a str);
 
@@ -22,11 +22,11 @@ impl fmt::Display for Shown<'_> {
     fn fmt<W: fmt::Write>(&self, f: &mut fmt::Formatter<W>) -> fmt::Result {
         for character in self.0.chars() {
             match character {
-                '\0'..='\x1f' | '\\' | '\x7f'..='\u{9f}' => write!(
-                    f,
-                    "\\x{:02x}",
-                    character as u32
-                )?,
+                '\0'..='\x1f'
+                | '\\'
+                | '\x7f'..='\u{9f}'
+                | '\u{202a}'..='\u{202e}'
+                | '\u{2066}'..='\u{2069}' => write!(f, "\\x{:02x}", character as u32)?,
                 plain => f.write_char(plain)?,
             }
         }

@@ -10,11 +10,11 @@ use std::cmp::Ordering;
 use std::io;
 use std::io::Write;
 
-/// Reports that a command which reads a database has made it.
-pub fn note_made<E: Write>(file: &str, err: &mut E) {
+/// Reports that a command which reads a database has found none.
+pub fn note_absent<E: Write>(file: &str, err: &mut E) {
     let _ = writeln!(
         err,
-        "mrep: {}: there was no database, and an empty one is made",
+        "mrep: {}: there is no database: what is printed is that of a new one",
         Shown(file)
     );
 }
@@ -25,7 +25,7 @@ pub fn note_patterns<E: Write>(words: &[&str], err: &mut E) {
         if word.contains('*') && word.contains('.') {
             let _ = writeln!(
                 err,
-                "mrep: {}: `*` stands for itself, and only the table of exactly this name is meant",
+                "mrep: {}: `*` stands for itself: name each table, by an --only of its own",
                 Shown(word)
             );
         }
@@ -38,13 +38,21 @@ pub struct Chosen {
     tables: Follow,
     /// For each name whether there was a row.
     seen: Vec<bool>,
+    /// Tables that had a row, and whose names differ from one that is asked for in the case of letters alone.
+    near: Vec<(Vec<u8>, Vec<u8>)>,
+    alloc: Global,
 }
 
 impl Chosen {
     /// Tables of which no row was there yet.
     pub fn new(alloc: Global, tables: Follow) -> Result<Chosen, AllocError> {
         let seen = vec![in alloc; false; tables.names().len()]?;
-        Ok(Chosen { tables, seen })
+        Ok(Chosen {
+            tables,
+            seen,
+            near: Vec::new(alloc),
+            alloc,
+        })
     }
 
     /// The one table that is named, if it is one.
@@ -61,6 +69,7 @@ impl Chosen {
         ensures same { self.new.tables ≡ self.old.tables }
     {
         if !self.tables.follows(schema, table) {
+            self.note_near(schema, table);
             return false;
         }
         self.note(schema, table);
@@ -80,22 +89,79 @@ impl Chosen {
         }
     }
 
+    /// Keeps the name of a table that is like one that is asked for, if memory is there for it.
+    fn note_near(&mut self, schema: &[u8], table: &[u8])
+        ensures { self.new.tables ≡ self.old.tables }
+    {
+        if self.near.len() < self.tables.names().len()
+            && has_like(self.tables.names(), schema, table)
+            && !has(&self.near, schema, table)
+        {
+            let _ = push_name(self.alloc, schema, table, &mut self.near);
+        }
+    }
+
     /// Reports of which tables that are named there was no row.
     pub fn note_missing<E: Write>(&self, file: &str, err: &mut E) -> io::Result<()> {
         for (name, seen) in self.tables.names().iter().zip(self.seen.iter()) {
             if !*seen {
-                write_missing(file, &name.0, &name.1, err)?;
+                write_missing(file, name, &self.near, err)?;
             }
         }
         Ok(())
     }
 }
 
-/// Reports that a file has no row of a table.
-fn write_missing<E: Write>(file: &str, schema: &[u8], table: &[u8], err: &mut E) -> io::Result<()> {
+/// Reports that a file has no row of a table, and which table may be meant.
+fn write_missing<E: Write>(
+    file: &str,
+    name: &(Vec<u8>, Vec<u8>),
+    near: &[(Vec<u8>, Vec<u8>)],
+    err: &mut E,
+) -> io::Result<()> {
     write!(err, "mrep: {}: it has no row of ", Shown(file))?;
-    write_table(schema, table, err)?;
+    write_table(&name.0, &name.1, err)?;
+    for (schema, table) in near {
+        if is_like(name, schema, table) {
+            err.write_all(b"; did you mean ")?;
+            write_table(schema, table, err)?;
+        }
+    }
     writeln!(err)
+}
+
+/// Adds the name of a table to a list.
+fn push_name(
+    alloc: Global,
+    schema: &[u8],
+    table: &[u8],
+    names: &mut Vec<(Vec<u8>, Vec<u8>)>,
+) -> Result<(), AllocError> {
+    let schema = copied(alloc, schema)?;
+    let table = copied(alloc, table)?;
+    names.push((schema, table))?;
+    Ok(())
+}
+
+fn copied(alloc: Global, bytes: &[u8]) -> Result<Vec<u8>, AllocError> {
+    let mut copy = Vec::new(alloc);
+    copy.extend_from_slice(bytes)?;
+    Ok(copy)
+}
+
+/// Whether a list has the name of a table.
+fn has(names: &[(Vec<u8>, Vec<u8>)], schema: &[u8], table: &[u8]) -> bool {
+    names.iter().any(|name| name.0.as_slice() == schema && name.1.as_slice() == table)
+}
+
+/// Whether a list has a name that is like that of a table.
+fn has_like(names: &[(Vec<u8>, Vec<u8>)], schema: &[u8], table: &[u8]) -> bool {
+    names.iter().any(|name| is_like(name, schema, table))
+}
+
+/// Whether a name and that of a table are the same but for the case of letters.
+fn is_like(name: &(Vec<u8>, Vec<u8>), schema: &[u8], table: &[u8]) -> bool {
+    name.0.as_slice().eq_ignore_ascii_case(schema) && name.1.as_slice().eq_ignore_ascii_case(table)
 }
 
 /// How a name compares with that of a table.

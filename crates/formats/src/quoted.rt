@@ -2,40 +2,74 @@
 
 use std::fmt;
 
-/// A word of a command line for a shell: as it is, in quotes, or, if it has control characters, in the quotes `$'..'` of
-/// bash, ksh and zsh.
+/// A word of a command line for a shell: as it is, in quotes, or, if it has control characters, as what `printf` prints. Of the
+/// end of that a shell takes line feeds away: a word that ends with one is in the quotes `$'..'` of bash, ksh and zsh.
 #[derive(Clone, Copy)]
-pub(crate) struct Quoted<'a>(pub(crate) &'a str);
+pub struct Quoted<'a>(pub &'a str);
+
+/// How a word is quoted.
+#[derive(Clone, Copy)]
+enum Quotes {
+    Single,
+    Printf,
+    Dollar,
+}
 
 impl fmt::Display for Quoted<'_> {
     fn fmt<W: fmt::Write>(&self, f: &mut fmt::Formatter<W>) -> fmt::Result {
         if !self.0.is_empty() && self.0.chars().all(is_plain) {
             return f.write_str(self.0);
         }
-        let has_controls = self.0.chars().any(|character| character.is_control());
-        f.write_str(if has_controls { "$'" } else { "'" })?;
+        let quotes = quotes_of(self.0);
+        f.write_str(match quotes {
+            Quotes::Single => "'",
+            Quotes::Printf => "\"$(printf '",
+            Quotes::Dollar => "$'",
+        })?;
         for character in self.0.chars() {
-            write_quoted(character, has_controls, f)?;
+            write_quoted(character, quotes, f)?;
         }
-        f.write_char('\'')
+        f.write_str(match quotes {
+            Quotes::Printf => "')\"",
+            Quotes::Single | Quotes::Dollar => "'",
+        })
     }
+}
+
+/// How a word has to be quoted.
+fn quotes_of(word: &str) -> Quotes {
+    if !word.chars().any(|character| character.is_control()) {
+        return Quotes::Single;
+    }
+    if word.ends_with('\n') {
+        return Quotes::Dollar;
+    }
+    Quotes::Printf
 }
 
 /// Writes a character between quotes.
 fn write_quoted<W: fmt::Write>(
     character: char,
-    has_controls: bool,
+    quotes: Quotes,
     f: &mut fmt::Formatter<W>,
 ) -> fmt::Result {
-    if character.is_control() {
-        return write!(f, "\\u{:04x}", character as u32);
+    match (quotes, character) {
+        (Quotes::Single, '\'') => f.write_str("'\\''"),
+        (Quotes::Single, _) => f.write_char(character),
+        (Quotes::Printf, '%') => f.write_str("%%"),
+        (_, '\\') => f.write_str("\\\\"),
+        (_, '\'') => f.write_str("\\047"),
+        _ if character.is_control() => write_octal(character as u32, f),
+        _ => f.write_char(character),
     }
-    match character {
-        '\\' if has_controls => f.write_str("\\\\"),
-        '\'' if has_controls => f.write_str("\\'"),
-        '\'' => f.write_str("'\\''"),
-        plain => f.write_char(plain),
+}
+
+/// Writes the bytes of a control character, which is below 0xA0, as octal digits.
+fn write_octal<W: fmt::Write>(code: u32, f: &mut fmt::Formatter<W>) -> fmt::Result {
+    if code >= 0x80 {
+        f.write_str("\\302")?;
     }
+    write!(f, "\\{}{}{}", code / 64 % 8, code / 8 % 8, code % 8)
 }
 
 /// Whether a character means itself to a shell.

@@ -18,6 +18,9 @@ const CONNECTED: &str =
 const APPLIED: &str =
     "# HELP mrep_applied_total Transactions that this run has applied.\n# TYPE mrep_applied_total counter\nmrep_applied_total";
 
+const EXECUTED: &str =
+    "# HELP mrep_executed_transactions Transactions of the executed GTID set.\n# TYPE mrep_executed_transactions gauge\nmrep_executed_transactions";
+
 const COMMITTED: &str =
     "# HELP mrep_source_commit_seconds When the source committed the transaction that was applied last, since 1970-01-01 00:00:00 UTC.\n# TYPE mrep_source_commit_seconds gauge\nmrep_source_commit_seconds ";
 
@@ -25,7 +28,7 @@ const APPLIED_AT: &str =
     "# HELP mrep_applied_at_seconds When it was applied, since 1970-01-01 00:00:00 UTC.\n# TYPE mrep_applied_at_seconds gauge\nmrep_applied_at_seconds ";
 
 const INFO: &str =
-    "# HELP mrep_info The executed GTID set, the transaction that was applied last, and how the last connection ended.\n# TYPE mrep_info gauge\nmrep_info{";
+    "# HELP mrep_info How the last connection ended, or why there was none.\n# TYPE mrep_info gauge\nmrep_info{";
 
 /// What a status says.
 #[derive(Drop)]
@@ -40,7 +43,7 @@ struct Facts {
     /// When the source committed it, and when it was applied here, in microseconds since 1970-01-01 00:00:00 UTC.
     committed_at: Option<u64>,
     applied_at: Option<u64>,
-    /// The reason for which the last connection ended.
+    /// The reason for which the last connection ended, or there was none.
     end: Option<String>,
 }
 
@@ -117,6 +120,11 @@ impl Status {
         }
     }
 
+    /// No connection has begun, for this reason.
+    pub fn not_begun(&self, why: &str) {
+        self.ended(format!(in self.alloc; "{why}").ok());
+    }
+
     fn put(&self, facts: Facts) {
         self.facts.set(Some(facts));
         self.is_new.set(true);
@@ -181,12 +189,29 @@ fn text_of(alloc: Global, facts: &Facts) -> io::Result<Vec<u8>> {
     let mut text = Vec::new(alloc);
     writeln!(text, "{CONNECTED} {}", facts.is_connected as u8)?;
     writeln!(text, "{APPLIED} {}", facts.applied)?;
+    write_count(facts, &mut text)?;
     write_time(COMMITTED, facts.committed_at, &mut text)?;
     write_time(APPLIED_AT, facts.applied_at, &mut text)?;
-    text.write_all(INFO.as_bytes())?;
-    write_labels(alloc, facts, &mut text)?;
-    text.write_all(b"} 1\n")?;
+    write_info(facts, &mut text)?;
+    write_set(alloc, facts, &mut text)?;
     Ok(text)
+}
+
+/// Writes how many transactions are executed, if the set is known.
+fn write_count(facts: &Facts, out: &mut Vec<u8>) -> io::Result<()> {
+    let Some(executed) = &facts.executed else {
+        return Ok(());
+    };
+    writeln!(out, "{EXECUTED} {}", count(executed))
+}
+
+/// How many transactions a set has.
+fn count(executed: &GtidSet) -> u64 {
+    let mut sum = 0u64;
+    for span in executed.spans() {
+        sum = sum.saturating_add(span.hi.saturating_sub(span.lo));
+    }
+    sum
 }
 
 /// Writes a time, if it is known.
@@ -199,23 +224,27 @@ fn write_time(name: &str, micros: Option<u64>, out: &mut Vec<u8>) -> io::Result<
     out.write_all(b"\n")
 }
 
-/// Writes the labels that are known. Sets, GTIDs and reasons have neither quotes nor backslashes.
-fn write_labels(alloc: Global, facts: &Facts, out: &mut Vec<u8>) -> io::Result<()> {
-    let mut between = "";
+/// Writes the reason for the last end as a label, if it is known. It has neither quotes nor backslashes.
+fn write_info(facts: &Facts, out: &mut Vec<u8>) -> io::Result<()> {
+    out.write_all(INFO.as_bytes())?;
+    if let Some(end) = &facts.end {
+        write!(out, "end=\"{end}\"")?;
+    }
+    out.write_all(b"} 1\n")
+}
+
+/// Writes as comments what is another text after each transaction, which as a label would be a series of its own: the executed
+/// set and the last transaction, if they are known.
+fn write_set(alloc: Global, facts: &Facts, out: &mut Vec<u8>) -> io::Result<()> {
     if let Some(executed) = &facts.executed {
         let mut text = String::new(alloc);
         if executed.print(&mut text).is_err() {
             return Err(io::ErrorKind::OutOfMemory.into());
         }
-        write!(out, "executed=\"{text}\"")?;
-        between = ",";
+        writeln!(out, "# executed {text}")?;
     }
-    if let Some(last) = facts.last {
-        write!(out, "{between}last=\"{last}\"")?;
-        between = ",";
+    match facts.last {
+        Some(last) => writeln!(out, "# last {last}"),
+        None => Ok(()),
     }
-    if let Some(end) = &facts.end {
-        write!(out, "{between}end=\"{end}\"")?;
-    }
-    Ok(())
 }

@@ -1,8 +1,9 @@
 //! A file that is replaced whole, so that no reader finds a part of it.
 
-use files::{FileFault, lead_to_one};
+use files::{FileFault, is_beside, lead_to_one};
 use std::fs::{File, OpenOptions};
-use std::io::{ErrorKind, Read, Write};
+use std::io::{ErrorKind, Write};
+use std::os::unix::fs::FileExt;
 use std::{fs, io};
 
 /// What a status begins with. A file that begins otherwise is no status, and is not replaced.
@@ -15,7 +16,7 @@ const FOREIGN: &str = "it is no status of mrep, and is not replaced";
 const PART_FOREIGN: &str =
     "the file with .new after this name is no status of mrep, and is not replaced";
 
-const IN_USE: &str = "it is the database, or another file that is read";
+const IN_USE: &str = "it is the database, what lies beside that, or another file that is read";
 
 /// A file that is replaced whole: it is written beside, as NAME.new, and then renamed.
 #[derive(Drop)]
@@ -34,7 +35,7 @@ impl StatusFile {
         db: &str,
         others: &[&str],
     ) -> Result<StatusFile, FileFault> {
-        if is_in_use(rt, name, db, others) {
+        if is_in_use(rt, name, db, others) || is_beside(rt, name, db)? {
             return Err(FileFault::Unusable(IN_USE));
         }
         let alloc = rt.alloc();
@@ -102,23 +103,27 @@ fn is_in_use(rt: &HostRuntime, name: &str, db: &str, others: &[&str]) -> bool {
     false
 }
 
-/// Whether what has a name is a status, or an empty file; also if nothing has it.
+/// Whether what has a name is a status, or what a crash has left of one; also if nothing has it.
 fn is_status(rt: &HostRuntime, name: &str) -> io::Result<bool> {
     match fs::symlink_metadata(rt, name) {
         Err(cause) if cause.kind() == ErrorKind::NotFound => Ok(true),
         Err(cause) => Err(cause),
         Ok(metadata) if !metadata.is_file() => Ok(false),
-        Ok(metadata) if metadata.len() == 0 => Ok(true),
-        Ok(_) => begins_as_one(fs::open(rt, name)?),
+        Ok(metadata) => begins_as_one(&fs::open(rt, name)?, metadata.len()),
     }
 }
 
-/// Whether a file begins as a status.
-fn begins_as_one(mut file: File) -> io::Result<bool> {
+/// Whether a file of this length begins as a status. After a crash bytes of it may be zeros, or missing.
+fn begins_as_one(file: &File, length: u64) -> io::Result<bool> {
     let mut begin = [0u8; HEAD_LENGTH];
-    match file.read_exact(&mut begin) {
-        Ok(()) => Ok(&begin[..] == HEAD),
-        Err(cause) if cause.kind() == ErrorKind::UnexpectedEof => Ok(false),
-        Err(cause) => Err(cause),
+    let there = length.min(HEAD_LENGTH as u64);
+    if let Some(begin) = begin.get_mut(..there as usize) {
+        file.read_exact_at(begin, 0)?;
     }
+    Ok(
+        begin
+            .iter()
+            .zip(HEAD.iter())
+            .all(|(it, whole)| *it == *whole || *it == 0),
+    )
 }

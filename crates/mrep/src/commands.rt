@@ -3,6 +3,7 @@
 ghost use Rattle.std.specs.Prelude.{◌≡◌, ◌≤◌, IfOk, IfSome};
 
 pub mod abandon;
+pub mod account;
 pub mod clear;
 pub mod copy;
 pub mod export;
@@ -34,14 +35,15 @@ use crate::commands::verify::verify;
 use crate::report::failure::{DONE, Failure, MEMORY, of_words, over_argument, write_failure};
 use clap::{ArgMatches, Command};
 use command_line::{
-    escaped, grammar, input_again, no_command, parse_tables, word, write_completions, write_help,
+    escaped, grammar, input_again, no_command, parse_tables, spelled_out, tip, word,
+    write_completions, write_help,
 };
-use files::{INPUT, has_bytes};
-use formats::{note_made, note_patterns};
+use files::{Found, INPUT};
+use formats::{note_absent, note_patterns};
 use payloads::Lines;
 use std::alloc::{AllocError, Global};
 use std::convert::AsStr;
-use std::io::Write;
+use std::io::{ErrorKind, Write};
 use typed_rows::write_query;
 
 /// Runs the command that the arguments name; the first argument is the program's own name. Returns the exit status: 0
@@ -72,9 +74,22 @@ pub fn command<S: AsStr, O: Write, E: Write>(
     }
 }
 
-fn run<'a, S: AsStr, O: Write, E: Write>(
+fn run<S: AsStr, O: Write, E: Write>(
+    rt: &HostRuntime,
+    words: &[S],
+    out: &mut O,
+    err: &mut E,
+) -> Result<u8, Failure>
+    ensures { IfOk result (λ status. status ≤ MEMORY) }
+{
+    let words = spelled_out(rt.alloc(), words)?;
+    run_spelled_out(rt, words.as_slice(), out, err)
+}
+
+/// Runs the command that words name, whose options have their long names.
+fn run_spelled_out<'a, O: Write, E: Write>(
     rt: &'a HostRuntime,
-    words: &'a [S],
+    words: &'a [&'a str],
     out: &mut O,
     err: &mut E,
 ) -> Result<u8, Failure>
@@ -83,8 +98,26 @@ fn run<'a, S: AsStr, O: Write, E: Write>(
     let mut command = grammar(rt.alloc())?;
     match command.try_get_matches_from_mut(words) {
         Ok(matches) => run_matches(rt, &mut command, &matches, out, err),
-        Err(error) => answer(rt.alloc(), words, error, out),
+        Err(error) => read_or_gone(answer(rt.alloc(), words, error, out)),
     }
+}
+
+/// What printing has come to: where a reader of the output has gone, as `head` does, nothing more was wanted.
+fn read_or_gone(done: Result<u8, Failure>) -> Result<u8, Failure>
+    ensures { IfOk done (λ status. status ≤ MEMORY) → IfOk result (λ status. status ≤ MEMORY) }
+{
+    match done {
+        Err(Failure::Output(cause)) if cause.kind() == ErrorKind::BrokenPipe => Ok(DONE),
+        done => done,
+    }
+}
+
+/// Whether a command does nothing but print.
+fn only_prints(name: &str) -> bool {
+    !matches!(
+        name,
+        "replay" | "follow" | "load" | "clear" | "adopt" | "skip" | "copy" | "export"
+    )
 }
 
 /// Prints help or the version, where words ask for that; otherwise they are a mistake.
@@ -97,7 +130,7 @@ fn answer<S: AsStr, O: Write>(
     ensures { IfOk result (λ status. status ≤ MEMORY) }
 {
     if error.use_stderr() {
-        return Err(of_words(alloc, &escaped(alloc, words, error)?));
+        return Err(of_words(alloc, &escaped(alloc, words, error)?, tip(words)));
     }
     write_help(&error, out)?;
     Ok(DONE)
@@ -120,16 +153,21 @@ fn run_matches<'a, O: Write, E: Write>(
         return Err(mistake(rt.alloc(), input_again(command)));
     }
     note_patterns(given.get_strs("only").unwrap_or(&[]), err);
-    match run_named(rt, name, given, out, err)? {
-        Some(status) => flushed(status, out, err),
-        None => Err(mistake(rt.alloc(), no_command(command))),
+    let done = match run_named(rt, name, given, out, err) {
+        Ok(Some(status)) => flushed(status, out, err),
+        Ok(None) => Err(mistake(rt.alloc(), no_command(command))),
+        Err(failure) => Err(failure),
+    };
+    if only_prints(name) {
+        return read_or_gone(done);
     }
+    done
 }
 
 /// The failure of a mistake in the arguments, whose text takes memory.
 fn mistake(alloc: Global, found: Result<clap::Error, AllocError>) -> Failure {
     match found {
-        Ok(error) => of_words(alloc, &error),
+        Ok(error) => of_words(alloc, &error, None),
         Err(_) => Failure::Memory,
     }
 }
@@ -192,7 +230,7 @@ fn columns<W: Write>(rt: &HostRuntime, given: &ArgMatches<'_>, out: &mut W) -> R
     Ok(DONE)
 }
 
-/// Runs the command of this name, which only reads a database, and reports if it has made that.
+/// Runs the command of this name, which only reads a database, and reports if there is none.
 fn read<W: Write, E: Write>(
     rt: &HostRuntime,
     name: &str,
@@ -202,26 +240,22 @@ fn read<W: Write, E: Write>(
 ) -> Result<u8, Failure>
     ensures { IfOk result (λ status. status ≤ MEMORY) }
 {
-    let db = word(given, "db");
-    let is_missing = !has_bytes(rt, db);
     let done = match name {
         "tables" => tables(rt, given, out),
         "gtids" => gtids(rt, given, out),
         "missing" => missing(rt, given, out),
         _ => show(rt, given, out, err),
     };
-    if is_missing {
-        note_if_made(rt, db, out, err);
-    }
     done?;
+    note_if_absent(rt, word(given, "db"), out, err);
     Ok(DONE)
 }
 
-/// Reports if a command that only reads a database, which was missing, has made it.
-pub fn note_if_made<W: Write, E: Write>(rt: &HostRuntime, db: &str, out: &mut W, err: &mut E) {
-    if has_bytes(rt, db) {
+/// Reports if a command that only reads a database has found none.
+pub fn note_if_absent<W: Write, E: Write>(rt: &HostRuntime, db: &str, out: &mut W, err: &mut E) {
+    if Found::under(rt, db) == Found::Nothing {
         let _ = out.flush();
-        note_made(db, err);
+        note_absent(db, err);
     }
 }
 

@@ -5,3 +5,4 @@ pub mod description;
 pub mod exporter;
 pub mod open;
 pub mod printer;
+pub mod reading;

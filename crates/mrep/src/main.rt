@@ -13,7 +13,8 @@ mod stack_room;
 use crate::commands::command;
 use crate::report::failure::{MEMORY, USAGE};
 use crate::stack_room::has_room;
-use std::io::BufWriter;
+use formats::Screen;
+use std::io::{BufWriter, IsTerminal};
 use std::process::ExitCode;
 use std::{env, fs, io};
 
@@ -60,7 +61,8 @@ fn run_words(rt: &HostRuntime) -> io::Result<u8> {
     if !has_room(rt, STACK) || use_stack(FRAMES, words.len()) > 1 {
         return Err(io::ErrorKind::OutOfMemory.into());
     }
-    let mut out = BufWriter::new(rt.alloc(), rt.stdout())?;
+    let is_terminal = rt.stdout().is_terminal();
+    let mut out = Screen::new(BufWriter::new(rt.alloc(), rt.stdout())?, is_terminal);
     Ok(command(rt, words.as_slice(), &mut out, &mut rt.stderr()))
 }
 

@@ -14,6 +14,7 @@
 
 mod database_sets;
 pub mod laws;
+mod map_names;
 mod metered;
 mod pulse;
 mod reason;

@@ -102,6 +102,19 @@ impl Pulse {
         }
     }
 
+    /// No connection has begun, for this reason, which is written with the status.
+    pub fn note_end(&self, why: &str) {
+        if let Some(status) = &self.status {
+            status.not_begun(why);
+        }
+    }
+
+    /// The same, and the status is written.
+    pub fn not_begun<E: Write>(&self, rt: &HostRuntime, why: &str, err: &mut E) {
+        self.note_end(why);
+        self.write_status(rt, err);
+    }
+
     /// A connection has ended.
     pub fn ended<E: Write>(&self, rt: &HostRuntime, end: &Ended, err: &mut E) {
         if let Some(progress) = &self.progress {

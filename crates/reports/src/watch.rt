@@ -2,6 +2,7 @@
 
 ghost use Rattle.std.specs.Prelude.{◌≡◌, true, is_some, None};
 
+use crate::map_names::names_in_map;
 use crate::pulse::Pulse;
 use crate::reason::{Halt, can_skip, write_advice, write_cause, write_end};
 use binlog::Event;
@@ -323,6 +324,13 @@ impl<'a, O: Write, E: Write> Observer for Watch<'a, O, E> {
             Event::TableMap(map) => {
                 if let Some(chosen) = &mut self.chosen {
                     chosen.takes(map.schema, map.table);
+                }
+            }
+            Event::OtherMap { .. } => {
+                if let Some(chosen) = &mut self.chosen
+                    && let Some((schema, table)) = names_in_map(bytes)
+                {
+                    chosen.takes(schema, table);
                 }
             }
             Event::Format | Event::Rotate { .. } | Event::Stop => self.details.gtid = None,

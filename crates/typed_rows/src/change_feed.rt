@@ -338,8 +338,11 @@ fn write_head<W: Write>(
     write_json_name(alloc, table, out)
 }
 
-/// Writes the types of the columns of a change's table, as its table map has them.
+/// Writes the types of the columns of a change's table, as its table map has them, where there is one.
 fn write_types<W: Write>(types: &[ColumnType], out: &mut W) -> io::Result<()> {
+    if types.is_empty() {
+        return Ok(());
+    }
     out.write_all(b",\"types\":[")?;
     let mut mark = "";
     for column in types.iter() {

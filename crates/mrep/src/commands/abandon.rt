@@ -4,7 +4,8 @@ ghost use Rattle.std.specs.Prelude.{◌≡◌, IfOk};
 
 use crate::commands::clear::{Clear, clear_reported, print_table};
 use crate::commands::skip::{outcome, record};
-use crate::database::open::{closed, list_in};
+use crate::database::open::closed;
+use crate::database::reading::list_in;
 use crate::report::failure::{DONE, Failure, over_argument, unusable};
 use crate::report::wanted::Wanted;
 use clap::ArgMatches;

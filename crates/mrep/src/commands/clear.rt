@@ -4,7 +4,7 @@ ghost use Rattle.std.specs.Prelude.{◌≤◌, IfOk};
 
 use crate::database::open::{closed, opened, opening};
 use crate::report::failure::{
-    DONE, Failure, MEMORY, of_database, over_argument, unusable, write_failure,
+    DONE, Failure, MEMORY, of_database, of_other_tables, over_argument, write_failure,
 };
 use crate::report::wanted::Wanted;
 use clap::ArgMatches;
@@ -125,11 +125,7 @@ fn rows_of(
         ClearEnd::Cleared(rows) => return stopped.map(|()| Some(rows)),
         ClearEnd::Stopped(reason) => return stopped.and(Err(failure_of(alloc, db, reason))),
         ClearEnd::Repeat => Ok(None),
-        ClearEnd::NotFollowed => Err(unusable(
-            alloc,
-            db,
-            "it was made for other tables than this one",
-        )),
+        ClearEnd::NotFollowed => Err(of_other_tables(alloc, db)),
         ClearEnd::OtherSet => Err(unusable(alloc, db, OTHER_SET)),
         ClearEnd::Failed(cause) => Err(of_database(alloc, db, cause)),
     };

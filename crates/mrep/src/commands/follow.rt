@@ -2,19 +2,22 @@
 
 ghost use Rattle.std.specs.Prelude.{◌≤◌, ⊤, IfOk};
 
+use crate::commands::account::{Options, Place, password_of, secret_of, user_of, warn};
 use crate::database::open::{closed, opened, opening};
 use crate::report::failure::{
-    Failure, Kind, MEMORY, named, of_system, over_argument, over_file, write_failure,
+    Failure, Kind, MEMORY, named, of_system, over_argument, write_failure,
 };
 use crate::report::status::{counted, status_after};
 use crate::report::wanted::{Wanted, waited};
 use binlog::Follow;
 use clap::ArgMatches;
 use command_line::{parse_number, word};
-use files::{others_may_read, read_password};
 use formats::Shown;
 use gtid::GtidSet;
-use replica::{Config, ConfigFault, Connect, Ended, FollowedFile, Observer, Until, follow_file, unfinished_copy};
+use replica::{
+    Config, ConfigFault, Connect, Ended, FollowedFile, Observer, Reason, Until, follow_file,
+    unfinished_copy,
+};
 use reports::{Pulse, Reports, Socket, Watch};
 use sqlite_disk::Unknown;
 use std::alloc::Global;
@@ -22,6 +25,17 @@ use std::io;
 use std::io::{ErrorKind, Write};
 use std::net::TcpStream;
 use wire::LARGEST_PAYLOAD;
+
+/// Why no connection has begun, as the status says it.
+const NOT_OPENED: &str = "NotOpened";
+
+const NOT_REACHED: &str = "NotReached";
+
+/// The error of MySQL for an account or a password that it does not take.
+const DENIED: u16 = 1045;
+
+const OTHER_ACCOUNT: &str =
+    "the account is given by --user, its password by --password-file; the source may know it for other hosts alone";
 
 /// Follows a source into a database until the connection ends, prints how it ended, and returns the exit status. With a
 /// filter the database keeps only the rows of the tables that it admits.
@@ -36,17 +50,31 @@ pub fn follow<W: Write, E: Write>(
 ) -> Result<u8, Failure>
     ensures { IfOk result (λ status. status ≤ MEMORY) }
 {
+    let options = Options::of(rt, given)?;
+    let place = Place::of(rt, given, &options)?;
+    follow_place(rt, given, &options, &place, out, err)
+}
+
+/// Follows the source at a place, as an account that arguments or options give.
+fn follow_place<W: Write, E: Write>(
+    rt: &HostRuntime,
+    given: &ArgMatches<'_>,
+    options: &Options,
+    place: &Place,
+    out: &mut W,
+    err: &mut E,
+) -> Result<u8, Failure>
+    ensures { IfOk result (λ status. status ≤ MEMORY) }
+{
     let wanted = Wanted::of(rt.alloc(), given)?;
-    let port = parse_number(word(given, "port"), 65_535);
-    let port = over_argument(rt.alloc(), port)? as u16;
-    let following = Following::of(rt, given, &wanted)?;
-    let password_file = word(given, "password-file");
-    warn(rt, password_file, err);
-    let (pulse, reports) = wanted.reports(rt, None, &[password_file], err)?;
+    let following = Following::of(rt, given, options, &wanted)?;
+    let secret = secret_of(given, options);
+    warn(rt, secret, err);
+    let (pulse, reports) = wanted.reports(rt, None, &[secret], err)?;
     let host = Host {
         rt,
-        name: word(given, "host"),
-        port,
+        name: place.host.as_str(),
+        port: place.port,
         pulse: &pulse,
     };
     follow_host(host, &wanted, following, reports, out, err)
@@ -76,16 +104,32 @@ fn follow_host<W: Write, E: Write>(
         Ok(followed) => concluded(rt.alloc(), wanted, name, followed, watch),
         Err(failure) => {
             watch.discard(wanted.feed_name());
+            pulse.not_begun(rt, NOT_OPENED, err);
             return Err(failure);
         }
     };
     match end {
-        Ok(end) => status_after(counted(&[end], &done), done, err),
+        Ok(end) => {
+            note_source(name, port, &end, err);
+            status_after(counted(&[end], &done), done, err)
+        }
         Err(failure) => {
             write_failure(done, err);
             Err(failure)
         }
     }
+}
+
+/// Says what to look at where the source refuses the account, or what answers is no MySQL server.
+fn note_source<E: Write>(name: &str, port: u16, end: &Ended, err: &mut E) {
+    let name = Shown(name);
+    let _ = match &end.reason {
+        Reason::SourceError { code: DENIED, .. } => writeln!(err, "mrep: {name}: {OTHER_ACCOUNT}"),
+        Reason::Wire(_) if end.at == 0 => {
+            writeln!(err, "mrep: {name}: no MySQL server answers at port {port}")
+        }
+        _ => Ok(()),
+    };
 }
 
 /// Prints how the connection to a source of this name ended. Returns that, or why there is no connection, and whether all else was
@@ -127,17 +171,6 @@ fn over_output(printed: io::Result<()>) -> Result<(), Failure> {
     Ok(())
 }
 
-/// Says on standard error if others may read the password file.
-fn warn<E: Write>(rt: &HostRuntime, name: &str, err: &mut E) {
-    if others_may_read(rt, name) {
-        let _ = writeln!(
-            err,
-            "mrep: {}: others may read the password: chmod 600 keeps them out",
-            Shown(name)
-        );
-    }
-}
-
 /// What is followed: the tables whose rows are kept, the settings, and the set that is waited for, if there is one.
 #[derive(Drop)]
 struct Following {
@@ -150,13 +183,14 @@ impl Following {
     fn of(
         rt: &HostRuntime,
         given: &ArgMatches<'_>,
+        options: &Options,
         wanted: &Wanted<'_, '_>,
     ) -> Result<Following, Failure> {
         let until = wanted.until(rt.alloc())?;
-        let server_id = parse_number(word(given, "server-id"), u32::MAX);
+        let server_id = parse_number("--server-id", word(given, "server-id"), u32::MAX);
         let server_id = over_argument(rt.alloc(), server_id)?;
         let only = wanted.filter(rt.alloc())?;
-        let config = settings(rt, given, server_id)?;
+        let config = settings(rt, given, options, server_id)?;
         Ok(Following {
             only,
             config,
@@ -165,26 +199,27 @@ impl Following {
     }
 }
 
-/// The settings, with the password from its file: the bytes of the file without one line feed at the end.
-fn settings(rt: &HostRuntime, given: &ArgMatches<'_>, server_id: u32) -> Result<Config, Failure> {
-    let (user, name) = (word(given, "user"), word(given, "password-file"));
-    let bytes = over_file(rt.alloc(), name, read_password(rt, name))?;
-    let password = match bytes.as_slice() {
-        [line @ .., b'\n'] => line,
-        all => all,
-    };
+/// The settings, with the account.
+fn settings(
+    rt: &HostRuntime,
+    given: &ArgMatches<'_>,
+    options: &Options,
+    server_id: u32,
+) -> Result<Config, Failure> {
+    let user = user_of(rt, given, options)?;
+    let password = password_of(rt, given, options)?;
     let once = given.get_flag("once");
     match Config::new(
         rt.alloc(),
         user.as_bytes(),
-        password,
+        &password,
         server_id,
         once,
         LARGEST_PAYLOAD,
     ) {
         Ok(config) => Ok(config),
         Err(ConfigFault::Memory) => Err(Failure::Memory),
-        Err(cause) => Err(named(rt.alloc(), Kind::Usage, user, &cause)),
+        Err(cause) => Err(named(rt.alloc(), Kind::Usage, user.as_str(), &cause)),
     }
 }
 
@@ -235,7 +270,10 @@ impl<'r> Connect for Host<'r, '_> {
         }
         match TcpStream::connect(self.rt, (unbracketed(self.name), self.port)) {
             Ok(stream) => Ok(Socket::new(self.rt, stream, self.pulse)),
-            Err(cause) => Err(cause),
+            Err(cause) => {
+                self.pulse.note_end(NOT_REACHED);
+                Err(cause)
+            }
         }
     }
 }

@@ -8,7 +8,8 @@ use crate::report::status::{counted, status_after};
 use crate::report::wanted::{Wanted, waited};
 use binlog::Follow;
 use clap::ArgMatches;
-use files::Input;
+use files::{Input, is_log_file};
+use formats::Shown;
 use gtid::GtidSet;
 use replica::{Capture, Config, Halt, Observer, Replayed, Until, read_some};
 use reports::Watch;
@@ -21,6 +22,9 @@ use wire::LARGEST_PAYLOAD;
 
 /// The server id of the replica. It is never sent: a replay sends nothing.
 const SERVER_ID: u32 = 1;
+
+const LOG_FILE: &str =
+    "it is a binary log file, and no stream that a source has sent: mrep follow reads the log from the source";
 
 /// Reads streams into a database, each as one connection, and prints how each ended. Returns the first of their
 /// statuses that is not 0, or 0.
@@ -72,10 +76,20 @@ fn replay_reported<W: Write, E: Write>(
     out: &mut W,
     err: &mut E,
 ) -> Result<(Replayed<File>, Result<(), Failure>), Failure> {
+    note_log_files(rt, names, err);
     let reading = Reading::of(rt, wanted, names)?;
     let (pulse, reports) = wanted.reports(rt, reading.total, names, err)?;
     let watch = Watch::new(wanted.source(rt, names, 0), &pulse, reports, out, err);
     replay_watched(rt, wanted, reading, watch)
+}
+
+/// Says of each stream that is a file of the source's log, where a line of an end will say that it is no stream.
+fn note_log_files<E: Write>(rt: &HostRuntime, names: &[&str], err: &mut E) {
+    for name in names {
+        if is_log_file(rt, name) {
+            let _ = writeln!(err, "mrep: {}: {LOG_FILE}", Shown(name));
+        }
+    }
 }
 
 /// Reads the streams with an observer.

@@ -2,7 +2,8 @@
 
 ghost use Rattle.std.specs.Prelude.{◌≡◌, IfOk};
 
-use crate::database::open::{closed, list_in, opened, opening};
+use crate::database::open::{closed, opened, opening};
+use crate::database::reading::list_in;
 use crate::report::failure::{DONE, Failure, of_database, over_argument, unusable};
 use clap::ArgMatches;
 use command_line::{parse_set, word};

@@ -2,7 +2,7 @@
 
 ghost use Rattle.std.specs.Prelude.{◌≤◌, IfOk};
 
-use crate::commands::note_if_made;
+use crate::commands::note_if_absent;
 use crate::commands::show::show_rows;
 use crate::database::description::read_tables;
 use crate::database::printer::Selection;
@@ -10,7 +10,7 @@ use crate::report::failure::{DONE, Failure, MEMORY, REFUSED, of_system, of_table
 use binlog::Follow;
 use clap::ArgMatches;
 use command_line::{parse_tables, word};
-use files::{Input, has_bytes};
+use files::Input;
 use formats::{Chosen, Encoding, Format, compare};
 use std::io::{Read, Write};
 use typed_rows::DescribedTables;
@@ -63,13 +63,11 @@ fn printed<W: Write, E: Write>(
         encoding: Encoding::Base64,
     };
     let mut rows = Vec::new(rt.alloc());
-    let is_missing = !has_bytes(rt, db);
-    let shown = show_rows(rt, db, selection, Some(&described), &mut rows, err);
-    if is_missing {
-        note_if_made(rt, db, out, err);
-    }
-    match shown {
-        Ok(()) => Ok(rows),
+    match show_rows(rt, db, selection, Some(&described), &mut rows, err) {
+        Ok(()) => {
+            note_if_absent(rt, db, out, err);
+            Ok(rows)
+        }
         Err(failure) => Err(failure),
     }
 }

@@ -19,6 +19,6 @@ pub fn read_description(rt: &HostRuntime, name: &str) -> Result<Description, Fai
     };
     match Description::read(rt.alloc(), &text) {
         Ok(description) => Ok(description),
-        Err(fault) => Err(of_description(rt.alloc(), name, fault)),
+        Err(fault) => Err(of_description(rt.alloc(), name, &text, fault)),
     }
 }

@@ -2,7 +2,7 @@
 
 use crate::report::failure::{Failure, of_damage, of_database, of_file, over_file, unusable};
 use files::{LOCKED, Opening, is_file, missing_wal, opening_fault, reading_fault, remove_unused};
-use replica::{ListedFile, Lister, Unopened, close_file, list_file, open_file};
+use replica::{ListedFile, Unopened, close_file, open_file};
 use sqlite::{Alter, Connection, Error, ErrorCode, File, FileStore, Files};
 use sqlite_disk::Unknown;
 use sqlite_std_file::OpenError;
@@ -33,18 +33,6 @@ impl<'a> Place<'a, 'a> {
             content: name,
         }
     }
-}
-
-/// Gives the database in a file, which is made if it does not exist, with its own filter, to a lister, and closes it. Where that
-/// ends with an error of the lister, that is the result.
-pub fn list_in<L: Lister>(
-    rt: &HostRuntime,
-    name: &str,
-    lister: &mut L,
-) -> Result<Result<(), L::Error>, Failure> {
-    let opening = opening(rt, name)?;
-    let done = list_file(rt, name, Unknown, lister);
-    listed(rt.alloc(), name, name, opened(rt, name, opening, done)?)
 }
 
 /// What giving a database to a lister has come to. A failure of the list names the database, and one of closing it, which comes

@@ -1,6 +1,6 @@
 //! The rows of a database, in one of the formats, and how many there are of each table.
 
-use crate::database::open::list_in;
+use crate::database::reading::list_in;
 use crate::report::failure::{Failure, of_row};
 use binlog::Follow;
 use formats::{Chosen, Encoding, Format, Records, Tallies, write_object};

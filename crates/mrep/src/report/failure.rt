@@ -13,7 +13,7 @@ use columns::{DescriptionFault, LineFault};
 use command_line::ArgumentFault;
 use files::FileFault;
 use first_copy::CopyFault;
-use formats::{Shown, write_named};
+use formats::{Quoted, Shown, write_named};
 use gtid::GtidFault;
 use replica::{NoMemory, Unloadable};
 use reports::write_unloadable;
@@ -34,6 +34,16 @@ pub const USAGE: u8 = 2;
 pub const FILES: u8 = 3;
 /// Out of memory.
 pub const MEMORY: u8 = 4;
+
+/// The name of the first column of a description, as `mysql` prints it without `-N`.
+const COLUMN: &[u8] = b"table_schema";
+
+const HEAD: &str = "its first line has the names of the columns: run mysql with -BN";
+
+const NO_TABLE_SEEN: &str =
+    "it is empty: the account sees no such table, or has no right on it (GRANT SELECT)";
+
+const OTHER_TABLES: &str = "it was made for other tables than this one";
 
 /// What has failed, by which the exit status goes.
 #[derive(Clone, Copy, PartialEq, Eq)]
@@ -228,7 +238,42 @@ pub fn of_system(alloc: Global, name: &str, cause: io::Error) -> Failure
 pub fn of_database(alloc: Global, name: &str, cause: StoreFault) -> Failure
     ensures status { Tells (λ status. status ≡ database_status cause) result }
 {
-    named(alloc, database_kind(cause), name, &cause)
+    let mut message = Vec::new(alloc);
+    let written = write_database(name, cause, &mut message);
+    told(database_kind(cause), message, written)
+}
+
+fn write_database(name: &str, cause: StoreFault, message: &mut Vec<u8>) -> io::Result<()> {
+    write_named(name, &cause, message)?;
+    match cause {
+        StoreFault::Follows => write_tables_of(name, message),
+        _ => Ok(()),
+    }
+}
+
+/// Writes how the tables are printed that a database was made for.
+fn write_tables_of(name: &str, message: &mut Vec<u8>) -> io::Result<()> {
+    writeln!(
+        message,
+        "mrep: {}: mrep tables --db {} prints which",
+        Shown(name),
+        Quoted(name)
+    )
+}
+
+/// The database of this name was made for other tables than this one.
+pub fn of_other_tables(alloc: Global, name: &str) -> Failure
+    ensures { IsTold kinds.Files result }
+{
+    let mut message = Vec::new(alloc);
+    let written = write_other_tables(name, &mut message);
+    let files = Kind::Files;
+    told(files, message, written)
+}
+
+fn write_other_tables(name: &str, message: &mut Vec<u8>) -> io::Result<()> {
+    write_named(name, &OTHER_TABLES, message)?;
+    write_tables_of(name, message)
 }
 
 /// The tables of the database file of this name are damaged.
@@ -241,14 +286,22 @@ pub fn of_damage(alloc: Global, name: &str, damage: &Damage) -> Failure
     told(Kind::Files, message, written)
 }
 
-/// The words are no command line.
+/// The words are no command line, and this is to be typed, if that is known.
 #[tactic(auto, using(crate::proofs::Told::tells))]
-pub fn of_words(alloc: Global, error: &clap::Error) -> Failure
+pub fn of_words(alloc: Global, error: &clap::Error, tip: Option<&str>) -> Failure
     ensures status { Tells (IsWordsStatus error.now) result }
 {
     let mut message = Vec::new(alloc);
-    let written = write!(message, "{error}");
+    let written = write_words(error, tip, &mut message);
     told(words_kind(error), message, written)
+}
+
+fn write_words(error: &clap::Error, tip: Option<&str>, message: &mut Vec<u8>) -> io::Result<()> {
+    write!(message, "{error}")?;
+    match tip {
+        Some(tip) => writeln!(message, "\nmrep: {tip}"),
+        None => Ok(()),
+    }
 }
 
 /// The value of an argument is none.
@@ -274,20 +327,44 @@ pub fn over_argument<'a, T: Drop>(
     }
 }
 
-/// The file of this name is no description of columns.
+/// The file of this name, which has this text, is no description of columns.
 #[tactic(auto, using(crate::proofs::Told::tells))]
-pub fn of_description(alloc: Global, name: &str, fault: DescriptionFault) -> Failure
+pub fn of_description(alloc: Global, name: &str, text: &[u8], fault: DescriptionFault) -> Failure
     ensures status { Tells (λ status. status ≡ description_status fault.fault) result }
 {
     let mut message = Vec::new(alloc);
-    let written = writeln!(
-        message,
-        "mrep: {}: line {}: {}",
-        Shown(name),
-        fault.line,
-        fault.fault
-    );
+    let written = write_description(name, text, fault, &mut message);
     told(description_kind(fault), message, written)
+}
+
+fn write_description(
+    name: &str,
+    text: &[u8],
+    fault: DescriptionFault,
+    message: &mut Vec<u8>,
+) -> io::Result<()> {
+    let shown = Shown(name);
+    if text.is_empty() {
+        return writeln!(message, "mrep: {shown}: {NO_TABLE_SEEN}");
+    }
+    writeln!(
+        message,
+        "mrep: {shown}: line {}: {}",
+        fault.line, fault.fault
+    )?;
+    if has_head(text) {
+        return writeln!(message, "mrep: {shown}: {HEAD}");
+    }
+    Ok(())
+}
+
+/// Whether the text of a description begins with the names of its columns, or with the line over them that `mysql` draws.
+fn has_head(text: &[u8]) -> bool {
+    let begins = match text.split_at_checked(COLUMN.len()) {
+        Some((begin, _)) => begin.eq_ignore_ascii_case(COLUMN),
+        None => false,
+    };
+    begins || text.starts_with(b"+-")
 }
 
 /// No tables are made of the description in the file of this name.

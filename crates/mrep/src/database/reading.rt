@@ -1,0 +1,127 @@
+//! A database that a command only reads: it changes no byte of a file that is none of this program, and makes none.
+//!
+//! Where another process has the database open, or its tables stand in its WAL file alone, a copy is read as `mrep copy` makes
+//! one, F.readN.part beside it, which is removed.
+
+use crate::commands::copy::{Target, fill};
+use crate::database::open::{listed, opened, opening, unopened_copy};
+use crate::report::failure::{Failure, over_file, unusable};
+use binlog::Follow;
+use files::{FileFault, Found, Names, Owner, Part, make_part, owner_of};
+use gtid::GtidSet;
+use replica::{ListedFile, Lister, Unopened, list_file};
+use sqlite::{Connection, Error, ErrorCode, File};
+use sqlite_disk::Unknown;
+use std::alloc::Global;
+
+/// How many processes may read copies of one database at a time.
+const READERS: u32 = 64;
+
+const FOREIGN: &str =
+    "it has tables, and none of mrep: name the file that follow, replay or load has made";
+
+const READ_BY_MANY: &str =
+    "no copy can be made to be read: the files with .read1.part and so on after its name are in use, or none of mrep";
+
+/// Gives the database of this name, with its own filter, to a lister. Where that ends with an error of the lister, that is the
+/// result. Where there is no database, it is given what a new one has.
+pub fn list_in<L: Lister>(
+    rt: &HostRuntime,
+    name: &str,
+    lister: &mut L,
+) -> Result<Result<(), L::Error>, Failure> {
+    match Found::under(rt, name) {
+        Found::Nothing => Ok(list_nothing(rt.alloc(), lister)),
+        Found::Database => list_database(rt, name, lister),
+        Found::Unmerged => list_copy(rt, name, lister),
+        Found::Foreign => Err(unusable(rt.alloc(), name, FOREIGN)),
+    }
+}
+
+/// Gives what a new database has to a lister: no transaction, and no rows.
+fn list_nothing<L: Lister>(alloc: Global, lister: &mut L) -> Result<(), L::Error> {
+    match lister.begin(&GtidSet::new(alloc), &Follow::all(alloc)) {
+        Ok(_) => Ok(()),
+        Err(error) => Err(error),
+    }
+}
+
+/// Gives a database to a lister, or a copy of it where another process has it open.
+fn list_database<L: Lister>(
+    rt: &HostRuntime,
+    name: &str,
+    lister: &mut L,
+) -> Result<Result<(), L::Error>, Failure> {
+    let opening = opening(rt, name)?;
+    let done = list_file(rt, name, Unknown, lister);
+    let is_open = is_open_elsewhere(&done);
+    match opened(rt, name, opening, done) {
+        Ok(done) => listed(rt.alloc(), name, name, done),
+        Err(_) if is_open => list_copy(rt, name, lister),
+        Err(failure) => Err(failure),
+    }
+}
+
+/// Whether a database was not opened since another process has it open.
+fn is_open_elsewhere<E: Drop>(done: &Result<ListedFile<E, File>, Unopened<File>>) -> bool {
+    match done {
+        Err(Unopened::NotOpened(why)) => {
+            matches!(why.cause, Error::SqliteFailure(ErrorCode::DatabaseBusy))
+        }
+        _ => false,
+    }
+}
+
+/// Gives a copy of a database to a lister.
+fn list_copy<L: Lister>(
+    rt: &HostRuntime,
+    name: &str,
+    lister: &mut L,
+) -> Result<Result<(), L::Error>, Failure> {
+    let from = over_file(rt.alloc(), name, Names::of(rt, name))?;
+    over_file(rt.alloc(), name, from.check(rt))?;
+    let part = reading_part(rt, &from, name)?;
+    let done = list_part(rt, name, &from, &part, lister);
+    part.remove(rt, false);
+    done
+}
+
+/// The file of a copy that no other process reads.
+fn reading_part(rt: &HostRuntime, from: &Names, name: &str) -> Result<Part, Failure> {
+    for reader in 1..=READERS {
+        let to = format!(in rt.alloc(); "{name}.read{reader}")?;
+        match make_part(rt, from, to.as_str()) {
+            Err(FileFault::Unusable(_)) => {}
+            made => return over_file(rt.alloc(), name, made),
+        }
+    }
+    Err(unusable(rt.alloc(), name, READ_BY_MANY))
+}
+
+/// Copies a database and gives the copy to a lister, unless it is one of another program.
+fn list_part<L: Lister>(
+    rt: &HostRuntime,
+    name: &str,
+    from: &Names,
+    part: &Part,
+    lister: &mut L,
+) -> Result<Result<(), L::Error>, Failure> {
+    let target = Target {
+        db: name,
+        to: name,
+        force: false,
+    };
+    fill(rt, target, from, part)?;
+    let copy = part.names.file.as_str();
+    // Its WAL file is copied back, so that its schema stands in the file.
+    if let Ok(conn) = Connection::open(rt, copy) {
+        let _ = conn.close();
+    }
+    if matches!(owner_of(rt, copy), Ok(Owner::Other)) {
+        return Err(unusable(rt.alloc(), name, FOREIGN));
+    }
+    match list_file(rt, copy, Unknown, lister) {
+        Ok(done) => listed(rt.alloc(), name, name, done),
+        Err(unopened) => Err(unopened_copy(rt, copy, name, name, unopened)),
+    }
+}
