@@ -11,7 +11,7 @@ Where an `open` has transactions that were in none of the files, it ends with st
 older than its feed, or they were skipped or adopted. --adopt, once, takes them for used.
 
     SELECT row, n FROM rows WHERE "schema" = 'shop' AND name = 'items'  -- rows as JSON, and how often each is there
-    SELECT row FROM rows WHERE name = 'items' AND key = '{"id":7}'      -- by the key, where the feed has keys
+    SELECT row FROM rows WHERE "schema" = 'shop' AND name = 'items' AND key = '{"id":7}'   -- by the key, where the feed has keys
 """
 import sqlite3
 import sys

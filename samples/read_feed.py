@@ -7,11 +7,17 @@ A place is a text: the last line that was used, an `open`, `commit` or `rollback
 the transactions that were used. It belongs into the same commit as what is made of them. The set alone keeps a transaction
 from being used twice; the line spares reading from the beginning."""
 import argparse
+import gzip
 import hashlib
 import json
 import os
+import shutil
 import sys
+import tempfile
 import time
+
+# How each line of a feed begins.
+HEAD = b'{"type":'
 
 
 def read_set(printed):
@@ -55,10 +61,21 @@ def is_named(file, name):
 
 
 def open_feed(name, waits):
-    """The file of a name; with `waits` once there is one."""
+    """The file of a name, unpacked if it is one of gzip; with `waits` once there is one. It has to be a feed: its first line
+    begins as one, and may be cut or have zeros."""
     while waits and not os.path.exists(name):
         time.sleep(0.2)
-    return open(name, 'rb')
+    file = open(name, 'rb')
+    if os.pread(file.fileno(), 2, 0) == b'\x1f\x8b':
+        unpacked = tempfile.TemporaryFile()
+        with file, gzip.open(file) as packed:
+            shutil.copyfileobj(packed, unpacked)
+        unpacked.flush()
+        file = unpacked
+    first = os.pread(file.fileno(), len(HEAD), 0).split(b'\n')[0]
+    if any(byte not in (0, want) for byte, want in zip(first, HEAD)):
+        sys.exit(f'{name}: it is no change feed of mrep')
+    return file
 
 
 def whole(item, changes):
@@ -96,7 +113,7 @@ class Reader:
                 while goes_on:
                     # One that was renamed is written until the next one is there.
                     goes_on = follow and (len(names) == 1 and is_named(file, names[0]) or len(names) == 2 and not os.path.exists(names[1]))
-                    kept = yield from self.read(file)
+                    kept = yield from self.read(file, names[0])
                     if goes_on:
                         time.sleep(0.2)
             self.begin, self.kept = 0, kept
@@ -110,13 +127,13 @@ class Reader:
         for at in reversed(range(len(names))):
             if follow and at == len(names) - 1 and not os.path.exists(names[at]):
                 continue
-            with open(names[at], 'rb') as file:
+            with open_feed(names[at], False) as file:
                 if self.is_in(file):
                     return names[at:]
         self.begin = 0
         return names[:]
 
-    def read(self, file):
+    def read(self, file, name='the feed'):
         """Reads a file as far as it is written. Returns the changes at the end whose transaction has not ended. They are
         read again the next time, since mrep cuts them off where it cannot write the others."""
         kept, is_cut = self.kept[:], False
@@ -136,7 +153,7 @@ class Reader:
                 is_cut = True
                 continue
             if is_cut and item['type'] != 'open':
-                sys.exit(f'{file.name}: a line is cut before {after - len(line)}, and no open follows')
+                sys.exit(f'{name}: a line is cut before {after - len(line)}, and no open follows')
             if item['type'] in ('insert', 'update', 'delete', 'skip'):
                 kept.append(item)
             else:
