@@ -50,7 +50,7 @@ fn texts_of<S: AsStr>(alloc: Global, words: &[S]) -> Result<Vec<String>, AllocEr
 }
 
 /// What a command is called elsewhere, and what to type.
-const ELSEWHERE: [(&str, &str); 20] = [
+static ELSEWHERE: [(&str, &str); 20] = [
     ("version", "mrep --version"),
     (
         "status",
@@ -102,10 +102,8 @@ pub fn tip<S: AsStr>(words: &[S]) -> Option<&'static str> {
         return None;
     };
     let name = name.as_str();
-    for (other, typed) in ELSEWHERE {
-        if name == other {
-            return Some(typed);
-        }
+    if let Some(typed) = called_elsewhere(name) {
+        return Some(typed);
     }
     if name == "follow" && rest.iter().any(|word| is_password(word.as_str())) {
         return Some(PASSWORD);
@@ -114,6 +112,20 @@ pub fn tip<S: AsStr>(words: &[S]) -> Option<&'static str> {
         return Some(DATABASE);
     }
     None
+}
+
+/// What to type for a command that has this name elsewhere.
+fn called_elsewhere(name: &str) -> Option<&'static str> {
+    for (other, typed) in elsewhere() {
+        if name == *other {
+            return Some(*typed);
+        }
+    }
+    None
+}
+
+fn elsewhere() -> &'static [(&'static str, &'static str)] {
+    &ELSEWHERE
 }
 
 /// Whether a word is the option of a password, as the clients of MySQL have it.

@@ -323,7 +323,7 @@ static OTHERS: [CommandRow; 11] = [
                 "A file with the rows, in any order, as `show --format tsv` prints them, or `-` for standard input",
             ),
         ],
-        "Example:\n  mysql -h db1 -u me -p -BN --binary-as-hex --default-character-set=utf8mb4 --init-command=\"SET time_zone='+00:00'\" -e 'SELECT * FROM shop.items' | mrep verify --db F.db --columns shop.columns shop.items -",
+        "Example:\n  mysql -h db1 -u me -p -BN --binary-as-hex --default-character-set=utf8mb4 --init-command=\"SET sql_mode='', time_zone='+00:00'\" -e 'SELECT * FROM shop.items' | mrep verify --db F.db --columns shop.columns shop.items -",
     ),
     CommandRow(
         "tables",
