@@ -3,10 +3,11 @@
 use crate::cells::write_first_cells;
 use crate::name::{Shown, write_escaped, write_table};
 use crate::quoted::Quoted;
+use crate::set_text::text_of;
 use crate::statement::Statement;
 use binlog::{ColumnPlace, EventFault, EventFaultKind, TableDef};
 use gather::{Change, ImageRef};
-use gtid::Gtid;
+use gtid::{Gtid, GtidSet};
 use std::alloc::Global;
 use std::io;
 use std::io::Write;
@@ -33,6 +34,9 @@ pub struct Details {
     pub lines: Vec<u8>,
     /// What the statement is that ended the connection, if one did.
     statement: Option<Statement>,
+    alloc: Global,
+    /// The executed set before the transaction; none where it was not reported, or memory ran out for it.
+    executed: Option<GtidSet>,
 }
 
 impl Details {
@@ -42,6 +46,25 @@ impl Details {
             gtid: None,
             lines: Vec::new(alloc),
             statement: None,
+            alloc,
+            executed: None,
+        }
+    }
+
+    /// Notes the executed set at the start.
+    pub fn note_executed(&mut self, executed: &GtidSet) {
+        self.executed = match executed.copy() {
+            Ok(copy) => Some(copy),
+            Err(_) => None,
+        };
+    }
+
+    /// Notes that a transaction was applied.
+    pub fn note_applied(&mut self, gtid: Gtid) {
+        if let Some(executed) = &mut self.executed
+            && executed.insert(gtid).is_err()
+        {
+            self.executed = None;
         }
     }
 
@@ -75,8 +98,37 @@ impl Details {
             write_noted(stream, ROWS, err)?;
         }
         match self.gtid {
-            Some(gtid) => write_transaction(stream, db, gtid, self.ways(can_skip), err),
+            Some(gtid) => self.write_ways(stream, db, gtid, can_skip, err),
             None => Ok(()),
+        }
+    }
+
+    /// Writes the transaction at hand, and what can be done about it.
+    fn write_ways<E: Write>(
+        &self,
+        stream: &str,
+        db: &str,
+        gtid: Gtid,
+        can_skip: bool,
+        err: &mut E,
+    ) -> io::Result<()> {
+        write_begin(stream, err)?;
+        writeln!(err, "in transaction {gtid}")?;
+        match self.ways(can_skip) {
+            Ways::None => Ok(()),
+            Ways::Skip => write_skip(stream, SKIP, db, gtid, err),
+            Ways::SkipOrClear => {
+                write_skip(stream, SKIP_DEFINITION, db, gtid, err)?;
+                write_clear(stream, db, gtid, self.executed_text().as_ref(), err)
+            }
+        }
+    }
+
+    /// The text of the executed set, if it is known.
+    fn executed_text(&self) -> Option<String> {
+        match text_of(self.alloc, self.executed.as_ref()?) {
+            Ok(text) => Some(text),
+            Err(_) => None,
         }
     }
 
@@ -122,26 +174,6 @@ fn write_noted<E: Write>(stream: &str, line: &[u8], err: &mut E) -> io::Result<(
     err.write_all(b"\n")
 }
 
-/// Writes the transaction at hand, and what can be done about it.
-fn write_transaction<E: Write>(
-    stream: &str,
-    db: &str,
-    gtid: Gtid,
-    ways: Ways,
-    err: &mut E,
-) -> io::Result<()> {
-    write_begin(stream, err)?;
-    writeln!(err, "in transaction {gtid}")?;
-    match ways {
-        Ways::None => Ok(()),
-        Ways::Skip => write_skip(stream, SKIP, db, gtid, err),
-        Ways::SkipOrClear => {
-            write_skip(stream, SKIP_DEFINITION, db, gtid, err)?;
-            write_clear(stream, db, gtid, err)
-        }
-    }
-}
-
 /// Writes how a transaction is left out, and what that is for.
 fn write_skip<E: Write>(
     stream: &str,
@@ -154,14 +186,26 @@ fn write_skip<E: Write>(
     writeln!(err, "{purpose}: mrep skip --db {} {gtid}", Quoted(db))
 }
 
-/// Writes how a table is cleared whose rows a statement has changed.
-fn write_clear<E: Write>(stream: &str, db: &str, gtid: Gtid, err: &mut E) -> io::Result<()> {
+/// Writes how a table is cleared whose rows a statement has changed, after this set; where it is not known, it is what the
+/// database has executed.
+fn write_clear<E: Write>(
+    stream: &str,
+    db: &str,
+    gtid: Gtid,
+    executed: Option<&String>,
+    err: &mut E,
+) -> io::Result<()> {
     write_begin(stream, err)?;
-    writeln!(
+    let db = Quoted(db);
+    write!(
         err,
-        "if it alters or empties a followed table: mrep clear --db {} --gtid {gtid} SCHEMA.TABLE, and then mrep load where the table has rows",
-        Quoted(db)
-    )
+        "if it alters or empties a followed table: mrep clear --db {db} --gtid {gtid} --at "
+    )?;
+    match executed {
+        Some(set) => write!(err, "'{set}'")?,
+        None => write!(err, "\"$(mrep gtids --db {db})\"")?,
+    }
+    writeln!(err, " SCHEMA.TABLE, and then mrep load where the table has rows")
 }
 
 /// Writes the statement of a QUERY event that is not supported, or the table and the column of a table map that is not.

@@ -278,6 +278,7 @@ impl<'a, O: Write, E: Write> Observer for Watch<'a, O, E> {
             self.stop = Some(Stop::Unfinished);
             return;
         }
+        self.details.note_executed(executed);
         if !executed.is_subset(&GtidSet::new(self.source.rt.alloc())) {
             self.chosen = None;
         }
@@ -348,6 +349,7 @@ impl<'a, O: Write, E: Write> Observer for Watch<'a, O, E> {
             Ok(applied) => {
                 self.details.gtid = None;
                 if *applied {
+                    self.details.note_applied(delivery.gtid);
                     self.has_applied = true;
                     let committed_at = self.stamps.committed_at();
                     self.pulse
