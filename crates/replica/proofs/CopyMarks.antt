@@ -1,5 +1,5 @@
 -- The marks of first copies in an executed set.
-use Rattle.replica.proofs.Names.{◌≡◌, ◌⊎◌, inl, inr, ℕ, Bool, true, false, ◌||◌, ◌&&◌, not, List, [], ◌∷◌, Option, Some, None, refl, sym, ap, subst, ◌∙◌, replicate, false≢true, true≢false, false_from_ne_true, or_cases, or_left, or_right, bytes_eq-Decides, Id, Ids, id_cmp_total}
+use Rattle.replica.proofs.Names.{◌≡◌, inl, inr, ℕ, Bool, true, false, ◌||◌, ◌&&◌, not, List, [], ◌∷◌, Option, Some, None, refl, sym, ap, subst, ◌∙◌, replicate, false≢true, false_from_ne_true, or_cases, or_right, bytes_eq-Decides, Id, Ids, id_cmp_total}
 use Rattle.std.specs.Prelude.{IfSome, IfNone}
 use Rattle.std.specs.FinSet as set
 use Rattle.std.specs.List.{list_all, list_any}

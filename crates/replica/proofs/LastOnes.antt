@@ -1,6 +1,8 @@
 -- Transactions after all of which one more is given.
-use Rattle.replica.proofs.Names.{◌≡◌, inl, inr, Bool, true, false, List, [], ◌∷◌, ◌++◌, None, refl, sym, ap, ◌∙◌, append_assoc, subst, true≢false, false≢true, DeliveryValue, Supply}
-use Rattle.replica.specs.Given.{BeginWith, GivesFirst, GivesOne, listed, then_last, unless_last}
+use Rattle.replica.proofs.Names.{◌≡◌, inl, inr, Bool, true, false, List, [], ◌∷◌, ◌++◌, Option, None, Result, Ok, Err, refl, sym, ap, ◌∙◌, append_assoc, subst, true≢false, false≢true, DeliveryValue, Supply}
+use Rattle.std.specs.Result.{IsErr}
+use Rattle.gather.specs.declared.transaction.Delivery.{Delivery}
+use Rattle.replica.specs.Given.{BeginWith, GivesFirst, GivesOne, GivesNext, listed, then_last, unless_last}
 
 module _ (left : Supply) (last : DeliveryValue) where
   lifted : (ds : List DeliveryValue) → BeginWith left ds → BeginWith (then_last left last) ds
@@ -46,3 +48,9 @@ gives_last true left rest last d is same none = absurd (true≢false is)
 pub gives_none : (is_given : Bool) (left : Supply) (last : DeliveryValue) → is_given ≡ true → GivesOne (unless_last is_given left last) (unless_last is_given left last) None
 gives_none true left last is = (record { begins = λ more begins. begins; are_all = λ more all. all }, refl)
 gives_none false left last is = absurd (false≢true is)
+
+-- an error gives none
+pub gives_error : {E : Type 0} (is_given : Bool) (left rest : Supply) (last : DeliveryValue) (answer : Result (Option Delivery) E) → is_given ≡ false → IsErr answer → GivesFirst left [] rest
+    → GivesNext (unless_last is_given left last) (unless_last is_given rest last) answer
+gives_error is_given left rest last (Ok next) is error none = absurd (false≢true error)
+gives_error is_given left rest last (Err cause) is error none = gives_first is_given left rest last [] is none

@@ -4,7 +4,7 @@ ghost use Rattle.std.specs.Prelude.{◌≤◌, IfOk};
 
 use crate::database::open::{closed, opened, opening};
 use crate::report::failure::{
-    DONE, Failure, MEMORY, of_database, of_other_tables, over_argument, write_failure,
+    DONE, Failure, MEMORY, of_database, of_other_tables, over_argument, unusable, write_failure,
 };
 use crate::report::wanted::Wanted;
 use clap::ArgMatches;

@@ -44,8 +44,8 @@ returns-in-Err-list_deletes-clause-notes g c clean old holds =
 
 pub returns-clause-clears : goal.returns-clause-clears
 returns-clause-clears g c clean old holds =
-    let lists = c.in-Ok-list_deletes.ensures.lists (c.apply.ensures.keeps.store.clean clean) old holds in
-    ends_by g.S.Store (λ h db is_open may. g.met.S.Store.settled h.store db is_open may) c.args.store.now.following (clear_of c.args.schema.now c.args.table.now c.args.gtid c.args.at.now) c.list_deletes.new.store c.apply.new.store old c.len-rows.result c.in-Ok-list_deletes.changes c.apply.result c.end_of_clear.result
+    let lists = c.in-Ok.ensures.lists (c.apply.ensures.keeps.store.clean clean) old holds in
+    ends_by g.S.Store (λ h db is_open may. g.met.S.Store.settled h.store db is_open may) c.args.store.now.following (clear_of c.args.schema.now c.args.table.now c.args.gtid c.args.at.now) c.list_deletes.new.store c.apply.new.store old c.len-rows.result c.in-Ok.changes c.apply.result c.end_of_clear.result
     c.end_of_clear.ensures c.list_deletes.ensures.keeps.following c.apply.ensures.keeps.store.following
     (record {
       to_be = record {
@@ -58,7 +58,7 @@ returns-clause-clears g c clean old holds =
 
 pub returns-clause-notes : goal.returns-clause-notes
 returns-clause-notes g c clean old holds =
-    let whole : Holds g.S.Store c.list_deletes.new.store old = (c.in-Ok-list_deletes.ensures.lists (c.apply.ensures.keeps.store.clean clean) old holds).1 in
+    let whole : Holds g.S.Store c.list_deletes.new.store old = (c.in-Ok.ensures.lists (c.apply.ensures.keeps.store.clean clean) old holds).1 in
     led_applied g.S.Store (λ h db is_open may. g.met.S.Store.settled h.store db is_open may) c.args.store.now c.list_deletes.new.store c.apply.new.store old (g.W.Observer.account c.args.observer.now) (g.W.Observer.account c.opened.new.self) (g.W.Observer.account c.apply.new.observer) c.list_deletes.ensures.keeps.following whole
     (opened_noted c.args.store.now.following old c.executed.result.now (g.W.Observer.account c.args.observer.now) (g.W.Observer.account c.opened.new.self) (c.executed.ensures.value false old holds) c.opened.ensures.noticed)
     refl (λ is now held. c.apply.ensures.keeps.notes clean is now held)
@@ -74,7 +74,7 @@ returns-in-Err-list_deletes-clause-heeds g c clean old holds on = (c.in-Err-list
 
 pub returns-clause-heeds : goal.returns-clause-heeds
 returns-clause-heeds g c clean old holds on =
-    let whole : Holds g.S.Store c.list_deletes.new.store old = (c.in-Ok-list_deletes.ensures.lists (c.apply.ensures.keeps.store.clean clean) old holds).1 in
+    let whole : Holds g.S.Store c.list_deletes.new.store old = (c.in-Ok.ensures.lists (c.apply.ensures.keeps.store.clean clean) old holds).1 in
     stays_whole g.S.Store (λ h db is_open may. g.met.S.Store.settled h.store db is_open may) c.apply.new.store old (λ left. left ≡ old) refl
     (subst (λ s. Holds g.S.Store s old) (sym (c.apply.ensures.keeps.heeds false old whole (c.opened.ensures.noticed.stays on))) whole)
 
