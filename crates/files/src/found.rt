@@ -1,7 +1,7 @@
 //! What a command that only reads a database finds under its name, before anything is opened or made.
 
+use crate::owner::{Owner, owner_of};
 use crate::sqlite_file::{has_frames, is_database, is_special};
-use crate::unsupported::{Owner, owner_of};
 use crate::what_is_named::{is_there, place_of};
 use std::io::ErrorKind;
 use std::{fs, io};
