@@ -1,5 +1,6 @@
 //! Options as the clients of MySQL have them: `-h HOST`, `-u USER` and `-P PORT`, with a blank or without.
 
+use crate::table::{Argument, CommandRow, commands};
 use std::alloc::{AllocError, Global};
 use std::convert::AsStr;
 
@@ -7,41 +8,64 @@ use std::convert::AsStr;
 const FOLLOW: &str = "follow";
 
 /// The words of a command line, with the long names of these options. `-h` with no word after it, and in another command, is
-/// help.
+/// help. The value of an option is left as it is.
 pub fn spelled_out<'a, S: AsStr>(
     alloc: Global,
     words: &'a [S],
 ) -> Result<Vec<&'a str>, AllocError> {
     let mut texts = Vec::with_capacity(alloc, words.len())?;
-    let mut follows = false;
+    let follows = match words {
+        [_, name, ..] => name.as_str() == FOLLOW,
+        _ => false,
+    };
+    let mut is_value = false;
     for (at, word) in words.iter().enumerate() {
         let word = word.as_str();
-        if at == 1 {
-            follows = word == FOLLOW;
-        }
         let next = words.get(at.saturating_add(1)).map(|next| next.as_str());
-        push_word(word, next, follows, &mut texts)?;
+        if is_value || !follows {
+            texts.push(word)?;
+            is_value = false;
+        } else {
+            is_value = push_option(word, next, &mut texts)?;
+        }
     }
     Ok(texts)
 }
 
-/// Adds a word of a command line, before this one.
-fn push_word<'a>(
+/// Adds a word that is no value, before this one. Answers whether the next word is its value.
+fn push_option<'a>(
     word: &'a str,
     next: Option<&str>,
-    follows: bool,
     texts: &mut Vec<&'a str>,
-) -> Result<(), AllocError> {
-    match long_name(word, next) {
-        Some((name, value)) if follows => {
-            texts.push(name)?;
-            if !value.is_empty() {
-                texts.push(value)?;
-            }
-        }
-        _ => texts.push(word)?,
+) -> Result<bool, AllocError> {
+    let Some((name, value)) = long_name(word, next) else {
+        texts.push(word)?;
+        return Ok(has_value(word));
+    };
+    texts.push(name)?;
+    if !value.is_empty() {
+        texts.push(value)?;
     }
-    Ok(())
+    Ok(value.is_empty())
+}
+
+/// Whether a word is an option whose value is the next word.
+fn has_value(word: &str) -> bool {
+    match word.strip_prefix("--") {
+        Some(name) => commands().iter().any(|rows| has_option(rows, name)),
+        None => false,
+    }
+}
+
+/// Whether the command has an option of this name with a value.
+fn has_option(rows: &[CommandRow], name: &str) -> bool {
+    for CommandRow(command, _, arguments, _) in rows {
+        if *command == FOLLOW {
+            return arguments.iter().any(|Argument(option, kind, _)| *option == name
+                && kind.value().is_some());
+        }
+    }
+    false
 }
 
 /// The long name of an option, and the value that stands in the same word.
