@@ -205,7 +205,10 @@ fn write_clear<E: Write>(
         Some(set) => write!(err, "'{set}'")?,
         None => write!(err, "\"$(mrep gtids --db {db})\"")?,
     }
-    writeln!(err, " SCHEMA.TABLE, and then mrep load where the table has rows")
+    writeln!(
+        err,
+        " SCHEMA.TABLE, and then mrep load where the table has rows"
+    )
 }
 
 /// Writes the statement of a QUERY event that is not supported, or the table and the column of a table map that is not.

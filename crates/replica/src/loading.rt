@@ -16,7 +16,9 @@ ghost use Rattle.replica.specs.Keeps.{KeepsStore};
 
 use crate::changing::{ChangeEnd, change};
 use crate::deliveries::Deliveries;
-use crate::marks::{begun_mark, ended_mark, given_up_mark, is_of_copy, is_unfinished, other_unfinished};
+use crate::marks::{
+    begun_mark, ended_mark, given_up_mark, is_of_copy, is_unfinished, other_unfinished,
+};
 use crate::observer::Observer;
 use binlog::Follow;
 use gtid::{Gtid, GtidFault, GtidSet, Spans};

@@ -11,8 +11,8 @@ const OTHER_SET: &str =
 /// What to do where a first copy has begun and not ended.
 pub const UNFINISHED: &str =
     "a first copy of tables has begun and not ended: load the same copy again, which goes on where it stopped, or give it up by `mrep abandon`";
-const GIVEN_UP: &str =
-    "this copy was given up: make a new one";
+
+const GIVEN_UP: &str = "this copy was given up: make a new one";
 
 /// Writes why a copy may not be loaded, and what to do.
 pub fn write_unloadable<E: Write>(name: &str, why: &Unloadable, err: &mut E) -> io::Result<()> {

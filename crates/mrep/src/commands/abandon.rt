@@ -123,7 +123,5 @@ fn mark<W: Write, E: Write>(
         closed: files,
     } = done;
     let files = closed(rt.alloc(), wanted.db, files);
-    stopped
-        .and(outcome(rt.alloc(), wanted.db, end))
-        .and(files)
+    stopped.and(outcome(rt.alloc(), wanted.db, end)).and(files)
 }

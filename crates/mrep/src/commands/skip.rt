@@ -5,7 +5,9 @@ ghost use Rattle.gather.specs.View.{delivery_value};
 
 use crate::commands::clear::failure_of;
 use crate::database::open::{closed, opened, opening};
-use crate::report::failure::{DONE, Failure, MEMORY, of_database, of_skip, over_argument, unusable};
+use crate::report::failure::{
+    DONE, Failure, MEMORY, of_database, of_skip, over_argument, unusable,
+};
 use clap::ArgMatches;
 use command_line::{parse_gtid, word};
 use gather::{Changes, Delivery};
