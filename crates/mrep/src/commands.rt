@@ -116,7 +116,16 @@ fn read_or_gone(done: Result<u8, Failure>) -> Result<u8, Failure>
 fn only_prints(name: &str) -> bool {
     !matches!(
         name,
-        "replay" | "follow" | "load" | "clear" | "abandon" | "adopt" | "skip" | "copy" | "export"
+        "replay"
+            | "follow"
+            | "load"
+            | "clear"
+            | "abandon"
+            | "adopt"
+            | "skip"
+            | "copy"
+            | "export"
+            | "verify"
     )
 }
 
