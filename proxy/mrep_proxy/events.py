@@ -91,7 +91,9 @@ class Middle:
             if not source.has(4):
                 raise Lost('the source has closed the connection')
             length = reader.begin()
-            first = source.data[source.at:source.at + 1] if length and source.has(1) else b''
+            if length and not source.has(1):
+                raise source.early
+            first = source.data[source.at:source.at + 1] if length else b''
             if first == b'\xff' and length < WHOLE:
                 raise SourceError(source.take(length))
             if first == b'\xfe' and length < 9:
