@@ -11,6 +11,7 @@ import threading
 import zlib
 
 from mrep import A, ROOT
+from reading import read_payload
 from streams import packets
 
 sys.dont_write_bytecode = True
@@ -207,6 +208,12 @@ def without_refusal(out):
     while at + 4 <= len(out):
         last, at = at, at + 4 + int.from_bytes(out[at:at + 3], 'little')
     return out[:last] if at == len(out) and out[last + 4:last + 5] == b'\xff' and b'mrep-proxy' in out[last:] else out
+
+
+def is_only(out, payloads):
+    """Whether these payloads have come out, and no whole one after them but an ERR of the proxy."""
+    out, good = without_refusal(out), packets(payloads, 1)
+    return out.startswith(good) and not read_payload(out, len(good), None)
 
 
 # A source
