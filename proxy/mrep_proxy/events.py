@@ -23,12 +23,14 @@ NAMES = {
 }
 # What may stand in a compressed transaction; of rows also the first version and the partial ones, which `mrep` refuses.
 PACKABLE = {QUERY, XID, TABLE_MAP, IGNORABLE, ROWS_QUERY, 23, 24, 25, WRITE, UPDATE, DELETE, PARTIAL}
-# Those that the loop over whole packets leaves to `Middle.event`.
-SPECIAL = {QUERY, STOP, ROTATE, FORMAT, PACKED}
+# Those that the loop over whole packets always leaves to `Middle.event`.
+SPECIAL = {STOP, ROTATE, FORMAT, PACKED}
 
 # The header of an event: time, type, server id, size, next position, flags; and so after a packet's header and 0x00.
 HEADER, HEADER_SIZE, CHECKSUM_SIZE = struct.Struct('<IBIIIH'), 19, 4
 IN_PACKET = struct.Struct('<IBIBIIIH')
+# A packet is read from whose first bytes are as many as those of an empty QUERY.
+QUERY_IN_PACKET = 4 + 1 + HEADER_SIZE + 13 + 1
 UINT32 = struct.Struct('<I')
 IN_USE, SUPPRESS_USE = 0x0001, 0x0008
 # A format description is at least as long as with 35 types; the GTID stands after the flags of its event.
@@ -110,29 +112,35 @@ class Middle:
         source, output, count = reader.source, self.output, 0
         buffer, at, expected, sequence = output.buffer, source.at, reader.sequence, output.sequence
         trailer = CHECKSUM_SIZE if self.summed else 0
+        inside, gtid, last = self.inside, self.gtid, self.position
+        unpack, pack, checksum = IN_PACKET.unpack_from, IN_PACKET.pack, UINT32.unpack_from
         with memoryview(source.data) as view:
             end = len(view)
-            while end - at >= IN_PACKET.size:
-                head, first, time, kind, server, size, position, flags = IN_PACKET.unpack_from(view, at)
-                stop = at + 4 + (head & FULL)
+            while end - at >= QUERY_IN_PACKET:
+                head, first, time, kind, server, size, position, flags = unpack(view, at)
+                stop = at + 5 + size
                 tail = stop - trailer
-                if (stop > end or size > WHOLE or size != stop - at - 5 or size < HEADER_SIZE + trailer or first
-                        or kind in SPECIAL or head >> 24 != expected):
+                if (kind in SPECIAL or stop > end or size > WHOLE or size < HEADER_SIZE + trailer or first
+                        or head != size + 1 | expected << 24):
                     break
-                if trailer and crc32(view[at + 5:tail]) != UINT32.unpack_from(view, tail)[0]:
+                if trailer and crc32(view[at + 5:tail]) != checksum(view, tail)[0]:
                     break
-                size -= trailer
-                buffer += IN_PACKET.pack(size + 1 | sequence << 24, 0, time, kind, server, size, position, flags)
-                buffer += view[at + IN_PACKET.size:tail]
-                if kind == XID:
-                    self.inside, self.gtid = False, None
-                    count += 1
+                if kind == QUERY:
+                    # A text of five bytes that are BEGIN, after a schema and a status.
+                    if view[tail - 5:tail] != b'BEGIN' or tail - at - 43 != view[at + 32] + view[at + 35] + 256 * view[at + 36]:
+                        break
+                    inside = True
+                elif kind == XID:
+                    inside, gtid, count = False, None, count + 1
                 elif kind == GTID:
-                    self.inside, self.gtid = False, bytes(view[at + 5 + GTID_AT:at + 5 + GTID_AT + 24])
-                self.position = position or self.position
-                expected, sequence = (expected + 1) % 256, (sequence + 1) % 256
-                at = stop
+                    inside, gtid = False, bytes(view[at + 5 + GTID_AT:at + 5 + GTID_AT + 24])
+                size -= trailer
+                buffer += pack(size + 1 | sequence << 24, 0, time, kind, server, size, position, flags)
+                buffer += view[at + IN_PACKET.size:tail]
+                last = position or last
+                expected, sequence, at = (expected + 1) & 255, (sequence + 1) & 255, stop
         source.at, reader.sequence, output.sequence = at, expected, sequence
+        self.inside, self.gtid, self.position = inside, gtid, last
         self.report.transactions += count
         if len(buffer) >= FLUSH:
             output.flush()
