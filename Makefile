@@ -4,8 +4,8 @@
 #             by `make test` where the toolchain keeps it, as rattle-kit-13f does and rattle-kit-13b does not. Both say at
 #             their start, and after each crate, about how long they take
 # make install, make uninstall
-#             puts bin/mrep, the page mrep.1, completions, the pages and a systemd unit below PREFIX (/usr/local), with
-#             DESTDIR before it; and removes them
+#             puts bin/mrep, mrep-proxy, their manual pages, completions, the pages and systemd units below PREFIX
+#             (/usr/local), with DESTDIR before it; and removes them
 # make test   runs the whole gate, tests/run: every proof, beside them the wrong bodies, and then, with the program that was
 #             built, every other folder of tests/ that has a `run`
 # make mutants, make record

@@ -68,6 +68,13 @@ class Options(argparse.Namespace):
     words: List[str]
 
 
+class Help(argparse.RawDescriptionHelpFormatter):
+    """A help whose options stand on a line of their own."""
+
+    def __init__(self, prog: str) -> None:
+        super().__init__(prog, max_help_position=34)
+
+
 class Parser(argparse.ArgumentParser):
     """Mistakes in one line, with status 2."""
 
@@ -77,14 +84,14 @@ class Parser(argparse.ArgumentParser):
 
 def parser() -> Parser:
     """All options. Those of one form alone say so."""
-    made = Parser('mrep-proxy', USAGE_TEXT, ABOUT, EXAMPLES, formatter_class=argparse.RawDescriptionHelpFormatter, allow_abbrev=False)
+    made = Parser('mrep-proxy', USAGE_TEXT, ABOUT, EXAMPLES, formatter_class=Help, allow_abbrev=False)
     add = made.add_argument
     add('--host', metavar='H', help='the source: a name or an address')
     add('--port', metavar='P', type=int, help='its port (3306)')
     add('--user', metavar='U', help='the account, which has REPLICATION SLAVE')
     add('--password-file', metavar='W', help='the file with the password; one line feed at its end is ignored')
     add('--socket', metavar='S', help='a Unix socket instead of host and port')
-    add('--ssl-mode', choices=MODES, help='TLS: VERIFY_IDENTITY (without the option), VERIFY_CA, which takes any name, REQUIRED, which takes any certificate, DISABLED')
+    add('--ssl-mode', metavar='MODE', choices=MODES, help='TLS: VERIFY_IDENTITY (without the option), VERIFY_CA, which takes any name, REQUIRED, which takes any certificate, DISABLED')
     add('--ssl-ca', metavar='FILE', help='certificates of authorities, instead of those of the system')
     add('--ssl-cert', metavar='FILE', help='a certificate of the account')
     add('--ssl-key', metavar='FILE', help='its key')
