@@ -7,7 +7,8 @@
 #             puts bin/mrep, mrep-proxy, their manual pages, completions, the pages and systemd units below PREFIX
 #             (/usr/local), with DESTDIR before it; and removes them
 # make test   runs the whole gate, tests/run: every proof, beside them the wrong bodies, and then, with the program that was
-#             built, every other folder of tests/ that has a `run`
+#             built, every other folder of tests/ that has a `run`. Before it, as root on Debian, it installs
+#             python3-zstandard where that is missing
 # make mutants, make record
 #             tries all wrong bodies; tries those that tests/prover/refused does not have as they are, and writes it. Both
 #             prove first what is not proved yet
@@ -40,6 +41,7 @@ uninstall:
 	scripts/install --remove "$(PROGRAM)" "$(PREFIX)" "$(DESTDIR)"
 
 test:
+	scripts/zstandard
 	tests/run
 
 mutants:
