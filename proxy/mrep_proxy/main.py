@@ -36,8 +36,9 @@ class Child:
     present: Optional['subprocess.Popen[bytes]'] = None
 
     def __init__(self, options: Options) -> None:
-        beside = os.path.join(os.path.dirname(os.path.realpath(sys.argv[0])), 'mrep')
-        program = options.mrep or (beside if os.access(beside, os.X_OK) else 'mrep')
+        here = os.path.dirname(os.path.realpath(sys.argv[0]))
+        beside = [it for it in (f'{here}/mrep', f'{here}/../bin/mrep') if os.access(it, os.X_OK)]
+        program = options.mrep or (beside + ['mrep'])[0]
         try:
             self.process = subprocess.Popen([program, *options.words], stdin=subprocess.PIPE)
         except OSError as error:
@@ -156,8 +157,10 @@ def follow(options: Options, report: Report) -> Tuple[int, bool]:
     except SourceError as error:
         report.say(str(error))
         child = Child(options)
-        refused = packet(0, greeting(SCRAMBLE)) + packet(2, error.payload)
-        run_to_end(lambda: send_to(child.descriptor, bytearray(refused)), Output(lambda _: None))
+        try:
+            send_to(child.descriptor, bytearray(packet(0, greeting(SCRAMBLE)) + packet(2, error.payload)))
+        except Gone:
+            pass
         return child.end() or ACT, False
     child = Child(options)
     enlarge(child.descriptor)

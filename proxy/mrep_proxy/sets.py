@@ -1,6 +1,7 @@
 """GTID sets (MySQL Reference Manual, "GTID Format and Storage"): for each source, a UUID of 16 bytes and perhaps a tag behind
 it, its intervals, ascending and apart, each with the number after its last one."""
 
+import re
 import struct
 from typing import Dict, List, Tuple
 from uuid import UUID
@@ -10,6 +11,7 @@ from .faults import Fault
 Intervals = List[Tuple[int, int]]
 GtidSet = Dict[bytes, Intervals]
 TWO = struct.Struct('<QQ')
+INTERVAL, TAG = re.compile(r'([0-9]+)(?:-([0-9]+))?'), re.compile('[A-Za-z_][A-Za-z0-9_]{0,31}')
 
 
 def merged(intervals: Intervals) -> Intervals:
@@ -56,12 +58,12 @@ def parse(text: str) -> GtidSet:
             uuid, *fields = item.split(':')
             key = source = UUID(uuid).bytes
             for field in fields:
-                if field[:1].isdigit():
-                    first, _, last = field.partition('-')
-                    found.setdefault(key, []).append((int(first), int(last or first) + 1))
+                numbers = INTERVAL.fullmatch(field)
+                if numbers:
+                    found.setdefault(key, []).append((int(numbers[1]), int(numbers[2] or numbers[1]) + 1))
                 else:
-                    key = source + field.lower().encode()
-    except ValueError as error:
+                    key = source + TAG.fullmatch(field)[0].lower().encode()  # type: ignore[index]
+    except (TypeError, ValueError) as error:
         raise Fault(f'{text[:80]} is no GTID set') from error
     return {source: merged(intervals) for source, intervals in found.items()}
 
