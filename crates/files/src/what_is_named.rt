@@ -91,7 +91,13 @@ pub(crate) fn place_of(rt: &HostRuntime, name: &str) -> Result<Option<String>, A
 
 /// Whether a file is a binary log of MySQL, by its first bytes (MySQL Source Documentation, "Binary Log Header").
 pub fn is_log_file(rt: &HostRuntime, name: &str) -> bool {
-    is_file(rt, name) && matches!(read_head::<4>(rt, name), Ok(Some(LOG_FILE)))
+    if !is_file(rt, name) {
+        return false;
+    }
+    match read_head::<4>(rt, name) {
+        Ok(head) => head == Some(LOG_FILE),
+        Err(_) => false,
+    }
 }
 
 /// Whether an open file has no bytes.
