@@ -137,13 +137,16 @@ fn is_password(word: &str) -> bool {
 
 /// Whether a command of this name takes a database.
 fn takes_database(name: &str) -> bool {
-    for rows in commands() {
-        for CommandRow(command, _, arguments, _) in rows {
-            if *command == name {
-                return arguments
-                    .iter()
-                    .any(|Argument(argument, ..)| *argument == "db");
-            }
+    commands().iter().any(|rows| has_database(rows, name))
+}
+
+/// Whether one of these commands has this name, and takes a database.
+fn has_database(rows: &[CommandRow], name: &str) -> bool {
+    for CommandRow(command, _, arguments, _) in rows {
+        if *command == name {
+            return arguments
+                .iter()
+                .any(|Argument(argument, ..)| *argument == "db");
         }
     }
     false

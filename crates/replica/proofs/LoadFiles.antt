@@ -26,9 +26,9 @@ use Rattle.replica.proofs.ContentStays.{keeps_stayed}
 use Rattle.replica.proofs.ChangeFiles.{changed_into}
 
 -- whether a mark of the copy is executed, by the store's set
-pub marked_by : (content : Content) (number_is : ℕ) {executed : Ids} {said says : Bool} {mark : Gtid} {source : List ℕ} → executed ≡ content.executed → said ≡ set.contains executed (id mark) → mark.source ≡ source → mark.number ≡ number_is → said ≡ says
+pub marked_by : (content : Content) (number_is : ℕ) (mark : Gtid) {executed : Ids} {said says : Bool} {source : List ℕ} → executed ≡ content.executed → said ≡ set.contains executed (id mark) → mark.source ≡ source → mark.number ≡ number_is → said ≡ says
     → set.contains content.executed (source, number_is) ≡ says
-marked_by content number_is {executed} {said} {says} {mark} {source} same is of number it =
+marked_by content number_is mark {executed} {said} {says} {source} same is of number it =
     ap (λ (ids : Ids). set.contains ids (source, number_is)) (sym same) ∙ ap₂ (λ (s : List ℕ) (n : ℕ). set.contains executed (s, n)) (sym of) (sym number) ∙ sym is ∙ it
 
 -- whether the copy was begun, by the store's set

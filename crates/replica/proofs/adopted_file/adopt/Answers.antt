@@ -5,8 +5,8 @@ use Rattle.replica.proofs.LoadFiles.{unfinished_by}
 use Rattle.replica.proofs.AdoptStore.{all_added, none_added, not_added, is_refused, would_begin, none_by, still_none_by}
 use Rattle.replica.proofs.adopted_file.adopt.Goals as goal
 
-pub returns-in_default-clause-adopts : goal.returns-in_default-clause-adopts
-returns-in_default-clause-adopts g c clean old holds = none_added g.S.Store (λ h db is_open may. g.met.S.Store.settled h.store db is_open may) c.args.store.now old c.args.gtids.now (none_by old c.executed.result.now (c.executed.ensures.value false old holds) c.in_default.ensures.none) holds
+pub returns-in_default-copy-clause-adopts : goal.returns-in_default-copy-clause-adopts
+returns-in_default-copy-clause-adopts g c clean old holds = none_added g.S.Store (λ h db is_open may. g.met.S.Store.settled h.store db is_open may) c.args.store.now old c.args.gtids.now (none_by old c.executed.result.now (c.executed.ensures.value false old holds) c.in_default.ensures.none) holds
 
 pub returns-in_default-subtract-clause-adopts : goal.returns-in_default-subtract-clause-adopts
 returns-in_default-subtract-clause-adopts g c clean old holds = none_added g.S.Store (λ h db is_open may. g.met.S.Store.settled h.store db is_open may) c.args.store.now old c.args.gtids.now (none_by old c.executed.result.now (c.executed.ensures.value false old holds) c.in_default.ensures.none) holds
