@@ -100,10 +100,10 @@ returns-in-Ok-clause-judges g c clean content holds kept =
       (
         begun_by content c.args.gtids.now (id c.args.first) (c.executed-2.ensures.value false content holds) c.was_begun.ensures c.if-was_begun.false,
         (
-      subst (λ ids. IsAtSet ids c.args.gtids.now) (c.executed-4.ensures.value false content holds) (c.in-Ok-true.ensures.0 c.in-Ok-true.field-0-test),
-      ap₂ (λ (s t : List ℕ). set.contains c.args.tables.now (s, t)) (c.in-Ok.ensures.schema ∙ c.deref.ensures.value) (c.in-Ok.ensures.table ∙ c.deref-in-Some-first_left_out.ensures.value) ∙ c.in-Some-first_left_out.ensures.some.0,
-      ap₂ (λ (s t : List ℕ). admits c.args.store.now.following s t) (c.in-Ok.ensures.schema ∙ c.deref.ensures.value) (c.in-Ok.ensures.table ∙ c.deref-in-Some-first_left_out.ensures.value)
-          ∙ ap (λ (n : Names). admits n c.in-Some-first_left_out.name.now.0.items c.in-Some-first_left_out.name.now.1.items) (sym c.following.ensures) ∙ c.in-Some-first_left_out.ensures.some.1,
+          subst (λ ids. IsAtSet ids c.args.gtids.now) (c.executed-4.ensures.value false content holds) (c.in-Ok-true.ensures.0 c.in-Ok-true.field-0-test),
+          ap₂ (λ (s t : List ℕ). set.contains c.args.tables.now (s, t)) (c.in-Ok.ensures.schema ∙ c.deref.ensures.value) (c.in-Ok.ensures.table ∙ c.deref-in-Some-first_left_out.ensures.value) ∙ c.in-Some-first_left_out.ensures.some.0,
+          ap₂ (λ (s t : List ℕ). admits c.args.store.now.following s t) (c.in-Ok.ensures.schema ∙ c.deref.ensures.value) (c.in-Ok.ensures.table ∙ c.deref-in-Some-first_left_out.ensures.value)
+              ∙ ap (λ (n : Names). admits n c.in-Some-first_left_out.name.now.0.items c.in-Some-first_left_out.name.now.1.items) (sym c.following.ensures) ∙ c.in-Some-first_left_out.ensures.some.1,
         ),
       ),
     )
