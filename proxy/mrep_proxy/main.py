@@ -83,7 +83,7 @@ def on_signal(number: int, _frame: object) -> None:
         die_by(number)
 
 
-def is_gone(descriptor: int) -> bool:
+def is_unread(descriptor: int) -> bool:
     """Whether nobody reads this pipe any more."""
     poll = select.poll()
     poll.register(descriptor, 0)
@@ -172,16 +172,16 @@ def follow(options: Options, report: Report) -> Tuple[int, bool]:
     try:
         fault = dump(connection, middle, wait, options.server_id or 0, held, options.once)
     except Gone:
-        status = child.end()
-        return status, status not in (0, ACT, USAGE)
-    finally:
-        connection.socket.close()
-        report.ended('mrep has ended')
+        fault, is_gone = None, True
+    else:
+        is_gone = False
+    connection.socket.close()
     if fault:
         report.say(str(fault))
-    report.ended(str(fault or 'end of the log'))
+    report.ended(str(fault or ('mrep has ended' if is_gone else 'end of the log')))
     status = child.end() or (fault.status if fault else 0)
-    return status, status not in (ACT, USAGE) and not (options.once and not fault)
+    is_done = status == 0 and (is_gone or options.once)
+    return status, status not in (ACT, USAGE) and not is_done
 
 
 def enlarge(descriptor: int) -> None:
@@ -275,7 +275,7 @@ def read_files(options: Options, report: Report) -> int:
 
     def rest() -> None:
         flush()
-        if is_gone(descriptor):
+        if is_unread(descriptor):
             raise Gone
 
     logs = LogFiles(options.files, options.follow, held, rest)

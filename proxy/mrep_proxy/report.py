@@ -37,11 +37,10 @@ class Report:
     def say(self, text: str) -> None:
         print(f'mrep-proxy: {self.name}: {text}' if self.name else f'mrep-proxy: {text}', file=sys.stderr, flush=True)
 
-    def skip(self, gtid: Optional[bytes], statement: bytes) -> None:
+    def skip(self, gtid: bytes, statement: bytes) -> None:
         """Reports a statement that is skipped."""
         self.skipped += 1
-        number = int.from_bytes(gtid[16:], 'little') if gtid else 0
-        where = f'{UUID(bytes=gtid[:16])}:{number}' if gtid else 'a transaction'
+        where = f'{UUID(bytes=gtid[:16])}:{int.from_bytes(gtid[16:24], "little")}'
         self.say(f'skipped {where}: {printable_statement(statement)}')
 
     def ended(self, reason: str) -> None:

@@ -255,7 +255,7 @@ class Wait:
                 raise Lost(f'cannot read: {error.strerror or error}') from error
             # What the flush took is not waited for the source.
             begun = begun or time.monotonic()
-            for descriptor, _ in self.poll.poll(1000):
+            for descriptor, _ in self.poll.poll(min(1000, self.idle * 1000 or 1000)):
                 self.others.get(descriptor, lambda: None)()
             if self.idle and time.monotonic() - begun > self.idle:
                 raise Lost(f'nothing has come for {self.idle:g} s')

@@ -29,19 +29,40 @@ NAMES = {2: 'QUERY', 3: 'STOP', 4: 'ROTATE', 15: 'FORMAT_DESCRIPTION', 16: 'XID'
 
 
 def python_with_zstd():
-    """A Python that has zstandard: this one, or that of the system."""
+    """A Python that has zstd: this one, or that of the system."""
     for python in (sys.executable, '/usr/bin/python3'):
-        if os.access(python, os.X_OK) and subprocess.run([python, '-c', 'import zstandard'], stderr=subprocess.DEVNULL, check=False).returncode == 0:
-            return python
+        for module in ('zstandard', 'compression.zstd'):
+            if os.access(python, os.X_OK) and subprocess.run([python, '-c', f'import {module}'], stderr=subprocess.DEVNULL, check=False).returncode == 0:
+                return python
     return None
 
 
 def go_on_with_zstd():
-    """Goes on in a Python that has zstandard. Answers whether there is one."""
+    """Goes on in a Python that has zstd. Answers whether there is one."""
     python = python_with_zstd()
     if python and python != sys.executable:
         os.execv(python, [python, *sys.argv])
     return bool(python)
+
+
+def compress(data, level=3, checksum=False, size=True):
+    """A zstd frame by the library that this Python has."""
+    try:
+        import zstandard
+        return zstandard.ZstdCompressor(level=level, write_checksum=checksum, write_content_size=size).compress(data)
+    except ImportError:
+        from compression import zstd
+        of = zstd.CompressionParameter
+        return zstd.compress(data, options={of.compression_level: level, of.checksum_flag: int(checksum), of.content_size_flag: int(size)})
+
+
+def decompress(frame):
+    try:
+        import zstandard
+        return zstandard.ZstdDecompressor().decompress(frame, max_output_size=1 << 20)
+    except ImportError:
+        from compression import zstd
+        return zstd.decompress(frame)
 
 
 # Events
