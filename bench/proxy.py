@@ -48,18 +48,17 @@ def serve(peer, stream, context=None):
     peer.rest()
 
 
-def timed(words, stream, context=None, prepare=None):
-    """The seconds of a command that follows a scripted source, its greatest memory in MiB, and when the stream had been asked for."""
+def timed(words, stream, context=None):
+    """The seconds of a command that follows a scripted source, its greatest memory in MiB, and its seconds of a processor."""
     source = Source(lambda peer: serve(peer, stream, context))
     begun = time.time()
-    process = subprocess.Popen([it.replace('PORT', source.port) for it in words], stdout=subprocess.DEVNULL)
-    _, status, usage = os.wait4(process.pid, 0)
+    ran = subprocess.run([PYTHON, '-c', scripted.MEASURED, *[it.replace('PORT', source.port) for it in words]], stdout=subprocess.DEVNULL, stderr=subprocess.PIPE, check=True)
     seconds = time.time() - begun
-    process.returncode = status
     source.close()
-    if status:
-        sys.exit(f'proxy: {words[0]} ends with {status}')
-    return seconds, usage.ru_maxrss // 1024
+    memory, processor, status = ran.stderr.split()[-3:]
+    if int(status):
+        sys.exit(f'proxy: {words[0]} ends with {int(status)}: {ran.stderr.decode()}')
+    return seconds, int(memory), float(processor)
 
 
 def proxy_words(work, db, *mine, program=PROGRAM):
@@ -88,16 +87,16 @@ def main():
                 found.append(timed(words_of(f'{work}/F{number}'), stream, context))
             return min(found)
 
-        alone, _ = best(lambda db: [*follow, db], profile)
+        alone, _, _ = best(lambda db: [*follow, db], profile)
         for name, mine, how in (('checksums', plain, None), ('checksums and TLS', tls, context)):
-            seconds, memory = best(lambda db: proxy_words(work, db, *mine), summed, how)
+            seconds, memory, spent = best(lambda db: proxy_words(work, db, *mine), summed, how)
             met = alone / seconds >= RATE
             bad += not met
             print(f'| {TRANSACTIONS:,} transactions of one row through the proxy, {name}, against `follow` | {seconds:.3f} s | {alone:.3f} s | {seconds / alone:.2f}{"" if met else ", **missed**"} | '
-                  f'{1 / RATE:.2f} | {memory} MiB |', flush=True)
+                  f'{1 / RATE:.2f} | {memory} MiB; {spent:.2f} s of a processor |', flush=True)
         one = dump([*HEAD, *insert(1, 1)], 1, [EOF])
-        first, _ = best(lambda db: proxy_words(work, db, *plain), one)
-        alone, _ = best(lambda db: [*follow, db], packets([*(b'\0' + it for it in [*HEAD, *insert(1, 1)]), EOF], 1))
+        first, _, _ = best(lambda db: proxy_words(work, db, *plain), one)
+        alone, _, _ = best(lambda db: [*follow, db], packets([*(b'\0' + it for it in [*HEAD, *insert(1, 1)]), EOF], 1))
         bad += first - alone > START
         print(f'| one transaction, from start to end | {first:.3f} s | {alone:.3f} s | {first - alone:.2f} s more | {START} s |  |', flush=True)
         block = rows(30, *[image(it, b'z' * 20) for it in range(310)])
@@ -107,10 +106,10 @@ def main():
             file.write('#!/bin/sh\nexec cat > /dev/null\n')
         os.chmod(sink, 0o755)
         for name, mine, how in (('plain', plain, None), ('inside TLS', tls, context)):
-            seconds, memory = best(lambda db: proxy_words(work, db, *mine, program=sink), large, how)
+            seconds, memory, spent = best(lambda db: proxy_words(work, db, *mine, program=sink), large, how)
             speed = len(large) / seconds / 1e6
             bad += speed < SPEED or memory > MEMORY
-            print(f'| {len(large) / 1e6:.0f} MB in one transaction through the proxy alone, {name} | {seconds:.3f} s | {speed:.0f} MB/s |  | {SPEED} MB/s | {memory} MiB (goal {MEMORY}) |', flush=True)
+            print(f'| {len(large) / 1e6:.0f} MB in one transaction through the proxy alone, {name} | {seconds:.3f} s | {speed:.0f} MB/s |  | {SPEED} MB/s | {memory} MiB (goal {MEMORY}); {spent:.2f} s of a processor |', flush=True)
     return int(bad > 0)
 
 
