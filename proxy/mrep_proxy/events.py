@@ -33,8 +33,8 @@ IN_PACKET = struct.Struct('<IBIBIIIH')
 QUERY_IN_PACKET = 4 + 1 + HEADER_SIZE + 13 + 1
 UINT32 = struct.Struct('<I')
 IN_USE, SUPPRESS_USE = 0x0001, 0x0008
-# A format description is at least as long as with 35 types; the GTID stands after the flags of its event.
-SHORTEST_FORMAT, GTID_AT = HEADER_SIZE + 62 + 35, HEADER_SIZE + 1
+# A format description is at least as long as with 35 types; a GTID stands after the flags of its event, a UUID and a number.
+SHORTEST_FORMAT, GTID_AT, GTID_END = HEADER_SIZE + 62 + 35, HEADER_SIZE + 1, HEADER_SIZE + 1 + 24
 
 
 class Content(Body):
@@ -133,7 +133,9 @@ class Middle:
                 elif kind == XID:
                     inside, gtid, count = False, None, count + 1
                 elif kind == GTID:
-                    inside, gtid = False, bytes(view[at + 5 + GTID_AT:at + 5 + GTID_AT + 24])
+                    if size < GTID_END + trailer:
+                        break
+                    inside, gtid = False, bytes(view[at + 5 + GTID_AT:at + 5 + GTID_END])
                 size -= trailer
                 buffer += pack(size + 1 | sequence << 24, 0, time, kind, server, size, position, flags)
                 buffer += view[at + IN_PACKET.size:tail]
@@ -192,10 +194,10 @@ class Middle:
         if kind == XID:
             self._ended()
         elif kind in (STOP, ROTATE, GTID):
-            self.inside, self.gtid = False, event[GTID_AT:GTID_AT + 24] if kind == GTID else None
+            self.inside, self.gtid = False, event[GTID_AT:GTID_END] if kind == GTID and len(event) >= GTID_END else None
         if kind == ROTATE:
             self.file, self.position = printable(event[HEADER_SIZE + 8:]), int.from_bytes(event[HEADER_SIZE:HEADER_SIZE + 8], 'little')
-        if self.on_set and kind in (PREVIOUS, GTID):
+        if self.on_set and (kind == PREVIOUS or self.gtid and kind == GTID):
             self.on_set(kind, event)
         self.output.payload(b'\0' + event)
 

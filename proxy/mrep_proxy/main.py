@@ -67,6 +67,8 @@ def send_to(descriptor: int, data: bytearray) -> None:
                 at += os.write(descriptor, view[at:])
         except BrokenPipeError as error:
             raise Gone from error
+        except OSError as error:
+            raise Fault(f'cannot write: {error.strerror}', RETRY) from error
 
 
 def die_by(number: int) -> None:
@@ -231,7 +233,7 @@ def serve(options: Options, report: Report) -> int:
             try:
                 fault = session(Client(accepted, options), listener, options, report, rules)
                 end = str(fault or 'end of the log')
-            except (Gone, Fault) as why:
+            except (Gone, Fault, OSError) as why:
                 end = str(why) or 'mrep has ended'
             report.say(end)
             report.ended(end)
@@ -251,8 +253,16 @@ def session(client: Client, listener: socket.socket, options: Options, report: R
     with connection.socket:
         wait = Wait(connection.socket, options.idle_timeout, flushed(output, report))
         wait.watch(client.socket.fileno(), select.POLLIN | select.POLLRDHUP, gone)
-        wait.watch(listener.fileno(), select.POLLIN, lambda: listener.accept()[0].close())
+        wait.watch(listener.fileno(), select.POLLIN, lambda: turn_away(listener))
         return dump(connection, Middle(output, report, rules, options.max_window), wait, options.server_id or server_id, held, once)
+
+
+def turn_away(listener: socket.socket) -> None:
+    """Closes a second connection, before a greeting."""
+    try:
+        listener.accept()[0].close()
+    except OSError:
+        pass
 
 
 # The form `files`

@@ -138,6 +138,8 @@ def parse(words: List[str]) -> Options:
         made.error('files takes no source, and --skip-ddl needs --db')
     if options.server_id is not None and not 1 <= options.server_id <= 0xFFFFFFFF:
         made.error('--server-id is not from 1 to 4294967295')
+    if not 1 << 10 <= options.max_window < 1 << 32:
+        made.error('--max-window is not from 1024 to 4294967295')
     if options.listen:
         if not options.local_user or not options.local_password_file or options.skip_ddl and not options.db:
             made.error('--listen needs --local-user and --local-password-file, and for --skip-ddl also --db')

@@ -98,6 +98,8 @@ def decoded(data: bytes) -> GtidSet:
         count, at = int.from_bytes(data[1:7] if tagged else data[:8], 'little'), 8
         found: GtidSet = {}
         for _ in range(count):
+            if at >= len(data):
+                raise ValueError(at)
             source, at = data[at:at + 16], at + 16
             if tagged:
                 # The tag's length in one byte, doubled, as the serialization of numbers below 128 is.
