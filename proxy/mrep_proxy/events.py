@@ -38,7 +38,7 @@ SHORTEST_FORMAT, GTID_AT, GTID_END = HEADER_SIZE + 62 + 35, HEADER_SIZE + 1, HEA
 
 
 class Content(Body):
-    """An event after its header, without its checksum. `check` compares that, and looks that nothing stands behind it."""
+    """An event after its header, without its checksum. `check` compares that, and looks that nothing follows it."""
 
     def __init__(self, body: Body, header: bytes, summed: bool) -> None:
         self.body, self.summed, self.sum = body, summed, crc32(header)
@@ -246,7 +246,7 @@ class Middle:
 
     def _unpack(self, content: Content) -> None:
         """Passes on the events of a compressed transaction, which have no checksums of their own. The last byte of the last
-        one is sent once the whole was compared: its checksum, its size, and that nothing stands behind."""
+        one is sent once the whole was compared: its checksum, its size, and that nothing follows it."""
         fields = payload_fields(content)
         size, compression = fields.get(UNPACKED_SIZE, 0), fields.get(COMPRESSION, ZSTD)
         if not size or fields.get(PACKED_SIZE) != content.left:

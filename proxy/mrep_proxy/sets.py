@@ -1,4 +1,4 @@
-"""GTID sets (MySQL Reference Manual, "GTID Format and Storage"): for each source, a UUID of 16 bytes and perhaps a tag behind
+"""GTID sets (MySQL Reference Manual, "GTID Format and Storage"): for each source, a UUID of 16 bytes and perhaps a tag after
 it, its intervals, ascending and apart, each with the number after its last one."""
 
 import re

@@ -1,6 +1,6 @@
 """A connection to the source: socket, TLS, login, queries and the dump command (MySQL Source Documentation, "Connection Phase").
 
-A password, or what is computed from one, is sent only where `Connection.may_log_in` and `may_tell_password` say so. What a
+A password, or what is computed from one, is sent only where `Connection.may_log_in` and `may_send_password` say so. What a
 source asks for beyond the three ways of login here is refused by its name."""
 
 import hashlib
@@ -119,7 +119,7 @@ class Connection:
             return True
         return ipaddress.ip_address(self.socket.getpeername()[0].partition('%')[0]).is_loopback
 
-    def may_tell_password(self) -> bool:
+    def may_send_password(self) -> bool:
         """Whether the password itself may be sent: inside TLS to a source whose certificate was verified, or where that is
         allowed, or by a Unix socket."""
         verified = self.options.ssl_mode != 'REQUIRED' or self.options.insecure
@@ -186,7 +186,7 @@ class Connection:
         return self._password() if plugin == SHA256 else hashed(plugin, self.options.password, scramble)
 
     def _password(self) -> bytes:
-        if not self.may_tell_password():
+        if not self.may_send_password():
             raise Fault('it asks for the password itself, which is sent only inside TLS to a source whose certificate is '
                         'verified, or by --socket; --insecure allows --ssl-mode=REQUIRED')
         return self.options.password + b'\0'

@@ -358,7 +358,7 @@ def dumping(stream, after=None, **how):
 
 
 def recorder(folder):
-    """A program in place of `mrep`, which writes what it reads to a file."""
+    """A program instead of `mrep`, which writes what it reads to a file."""
     name = f'{folder}/recorder'
     with open(name, 'w', encoding='utf-8') as file:
         file.write(f'#!/bin/sh\nexec cat > "{folder}/recorded"\n')
