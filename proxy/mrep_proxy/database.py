@@ -15,13 +15,13 @@ from .statements import Tables
 def read(path: str) -> Tuple[GtidSet, Tables, bool]:
     """The executed set and the filter, and whether there is a database: a new one has neither. It is opened for reading, and
     closed before `mrep` opens it, since that keeps others out."""
+    if not os.path.exists(path) or not os.path.getsize(path):
+        return {}, [], False
     try:
         import sqlite3
     except ImportError as error:
         raise Fault('this python3 has no sqlite3, which is needed to read the database') from error
     try:
-        if not os.path.exists(path) or not os.path.getsize(path):
-            return {}, [], False
         base = sqlite3.connect(f'{Path(path).absolute().as_uri()}?mode=ro', uri=True, timeout=1)
         try:
             names = {name for name, in base.execute("SELECT name FROM sqlite_master WHERE type = 'table'")}
