@@ -15,7 +15,7 @@ from typing import Callable, Dict, List, Union
 from .faults import Fault, Lost, SourceError, printable
 from .options import Options
 from .sets import GtidSet, encoded
-from .wire import PIECE, Input, PacketReader, lenenc, packet
+from .wire import PIECE, Input, Output, PacketReader, lenenc
 
 LONG_PASSWORD, LONG_FLAG, PROTOCOL_41, SSL, TRANSACTIONS, SECURE, PLUGIN_AUTH = 1, 4, 0x200, 0x800, 0x2000, 0x8000, 0x80000
 CAPABILITIES = LONG_PASSWORD | LONG_FLAG | PROTOCOL_41 | TRANSACTIONS | SECURE | PLUGIN_AUTH
@@ -95,11 +95,14 @@ class Connection:
             raise Lost(f'cannot read: {error.strerror or error}') from error
 
     def _send(self, payload: bytes) -> None:
+        output = Output(self.socket.sendall)
+        output.sequence = self.packets.sequence
         try:
-            self.socket.sendall(packet(self.packets.sequence, payload))
+            output.payload(payload)
+            output.flush()
         except OSError as error:
             raise Lost(f'cannot write: {error.strerror or error}') from error
-        self.packets.sequence = (self.packets.sequence + 1) % 256
+        self.packets.sequence = output.sequence
 
     def _message(self) -> bytes:
         """A payload that is not an ERR."""
