@@ -10,7 +10,7 @@ import socket
 import ssl
 import time
 from io import BytesIO
-from typing import Callable, Dict, List, Union
+from typing import Callable, Dict, List, Optional, Union
 
 from .faults import Fault, Lost, SourceError, printable
 from .options import Options
@@ -247,15 +247,28 @@ class Wait:
         self.others[descriptor] = act
         self.poll.register(descriptor, events)
 
+    def _come(self) -> Optional[bytes]:
+        """What has come, of TLS several records; nothing if none has."""
+        data = bytearray()
+        try:
+            while len(data) < PIECE:
+                piece = self.socket.recv(PIECE)
+                data += piece
+                if not piece or not isinstance(self.socket, ssl.SSLSocket):
+                    break
+        except (BlockingIOError, ssl.SSLWantReadError, ssl.SSLWantWriteError):
+            return bytes(data) or None
+        except OSError as error:
+            raise Lost(f'cannot read: {error.strerror or error}') from error
+        return bytes(data)
+
     def receive(self) -> bytes:
         begun = 0.0
         while True:
-            try:
-                return self.socket.recv(PIECE)
-            except (BlockingIOError, ssl.SSLWantReadError, ssl.SSLWantWriteError):
-                self.flush()
-            except OSError as error:
-                raise Lost(f'cannot read: {error.strerror or error}') from error
+            data = self._come()
+            if data is not None:
+                return data
+            self.flush()
             # What the flush took is not waited for the source.
             begun = begun or time.monotonic()
             for descriptor, _ in self.poll.poll(min(1000, self.idle * 1000 or 1000)):
