@@ -140,11 +140,20 @@ def dump(connection: Connection, middle: Middle, wait: Wait, server_id: int, hel
     return run_to_end(lambda: middle.packets(connection.packets), middle.output)
 
 
+def reported(send: Callable[[bytearray], None], report: Report) -> Callable[[bytearray], None]:
+    """Sends, and keeps the status up to date."""
+    def act(data: bytearray) -> None:
+        send(data)
+        report.tick()
+    return act
+
+
 def flushed(output: Output, report: Report) -> Callable[[], None]:
-    def flush() -> None:
+    """Sends what was collected, and keeps the status up to date."""
+    def act() -> None:
         output.flush()
         report.tick()
-    return flush
+    return act
 
 
 # The first form
@@ -166,7 +175,7 @@ def follow(options: Options, report: Report) -> Tuple[int, bool]:
         return child.end() or ACT, False
     child = Child(options)
     enlarge(child.descriptor)
-    output = Output(lambda data: send_to(child.descriptor, data))
+    output = Output(reported(lambda data: send_to(child.descriptor, data), report))
     output.buffer += LOGGED_IN
     middle = Middle(output, report, rules, options.max_window)
     wait = Wait(connection.socket, options.idle_timeout, flushed(output, report))
@@ -243,7 +252,7 @@ def session(client: Client, listener: socket.socket, options: Options, report: R
     """Serves one client to its end, or to that of the source."""
     client.log_in()
     server_id, once, held = client.command()
-    output = Output(client.send)
+    output = Output(reported(client.send, report))
     output.sequence = 1
     connections: List[Connection] = []
     fault = run_to_end(lambda: connections.append(connected(options, options.db, held, report)), output)
@@ -278,7 +287,7 @@ def read_files(options: Options, report: Report) -> int:
         raise Fault('standard output is a terminal: a pipe to mrep replay is meant, or -- replay ..', USAGE)
     child = Child(options) if options.words else None
     descriptor = child.descriptor if child else 1
-    output = Output(lambda data: send_to(descriptor, data))
+    output = Output(reported(lambda data: send_to(descriptor, data), report))
     output.buffer += LOGGED_IN
     output.sequence = 1
     flush = flushed(output, report)
