@@ -68,7 +68,8 @@ class LogFiles:
                 raise Fault(f'{path}: it is ' + ('an encrypted log' if magic == ENCRYPTED else 'no binary log'))
             middle.file, middle.position, kind, begun = os.path.basename(path), 4, FORMAT, False
             while events.has(1):
-                events.has(HEADER_SIZE) or events.take(HEADER_SIZE)
+                if not events.has(HEADER_SIZE):
+                    raise events.early
                 _, kind, _, size, _, flags = HEADER.unpack_from(events.data, events.at)
                 if not begun and kind != FORMAT or kind == FORMAT and flags & RELAY_LOG:
                     raise Fault(f'{path}: it is ' + ('a relay log' if kind == FORMAT else 'no binary log'))

@@ -73,7 +73,8 @@ def send_to(descriptor: int, data: bytearray) -> None:
 
 def die_by(number: int) -> None:
     """Ends this program by a signal."""
-    signal.signal(number, signal.SIG_DFL) if number not in (signal.SIGKILL, signal.SIGSTOP) else None
+    if number != signal.SIGKILL:
+        signal.signal(number, signal.SIG_DFL)
     os.kill(os.getpid(), number)
 
 

@@ -33,6 +33,7 @@ class Unpacker:
     more than that is kept."""
 
     def __init__(self, content: Any, window: int) -> None:
+        self.window = window
         self.reader, self.errors = opened(content, window)
 
     def read(self, most: int) -> bytes:
@@ -41,7 +42,7 @@ class Unpacker:
             piece: bytes = self.reader.read(most)
             return piece
         except self.errors as error:
-            raise Fault(f'it cannot be unpacked: {error}') from error
+            raise Fault(f'it cannot be unpacked, with --max-window {self.window}: {error}') from error
 
 
 def opened(content: Any, window: int) -> Tuple[Any, Tuple[Any, ...]]:
