@@ -2,7 +2,7 @@
 
 ghost use Rattle.std.specs.Prelude.{◌≡◌, IfOk};
 
-use crate::commands::clear::{Clear, clear_reported, print_table};
+use crate::commands::clear::{TableToClear, clear_reported, print_table};
 use crate::commands::skip::{outcome, record};
 use crate::database::open::closed;
 use crate::database::reading::list_in;
@@ -88,7 +88,7 @@ fn clear_table<W: Write, E: Write>(
     err: &mut E,
 ) -> Result<(), Failure> {
     let (schema, name) = over_argument(rt.alloc(), parse_table(rt.alloc(), word))?;
-    let what = Clear {
+    let what = TableToClear {
         schema: &schema,
         name: &name,
         gtid,

@@ -37,7 +37,7 @@ pub fn clear<W: Write, E: Write>(
     let (schema, name) = over_argument(alloc, table)?;
     let at = over_argument(alloc, parse_set(alloc, "--at", word(given, "at")))?;
     let wanted = Wanted::of(alloc, given)?;
-    let clear = Clear {
+    let clear = TableToClear {
         schema: &schema,
         name: &name,
         gtid,
@@ -55,7 +55,7 @@ pub fn clear<W: Write, E: Write>(
 
 /// A table, by its names, the GTID of the statement that has emptied it, and what the source had executed before.
 #[derive(Clone, Copy)]
-pub struct Clear<'t> {
+pub struct TableToClear<'t> {
     pub schema: &'t [u8],
     pub name: &'t [u8],
     pub gtid: Gtid,
@@ -69,7 +69,7 @@ pub struct Clear<'t> {
 pub fn clear_reported<W: Write, E: Write>(
     rt: &HostRuntime,
     wanted: &Wanted<'_, '_>,
-    what: Clear<'_>,
+    what: TableToClear<'_>,
     out: &mut W,
     err: &mut E,
 ) -> Result<Option<u64>, Failure> {
@@ -99,11 +99,11 @@ pub fn clear_reported<W: Write, E: Write>(
 fn clear_in<W: Observer>(
     rt: &HostRuntime,
     db: &str,
-    what: Clear<'_>,
+    what: TableToClear<'_>,
     observer: &mut W,
 ) -> Result<ClearedFile<File>, Failure> {
     let opening = opening(rt, db)?;
-    let Clear {
+    let TableToClear {
         schema,
         name,
         gtid,
