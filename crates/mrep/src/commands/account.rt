@@ -194,12 +194,17 @@ pub fn password_of(
 }
 
 /// The name of the file that the password is read from; empty where there is none.
-pub fn secret_of<'s>(given: &ArgMatches<'s>, options: &'s Options) -> &'s str {
-    match given.get_str("password-file") {
-        Some(INPUT) => "",
-        Some(name) => name,
-        None => options.name.as_str(),
-    }
+pub fn secret_of(
+    alloc: Global,
+    given: &ArgMatches<'_>,
+    options: &Options,
+) -> Result<String, Failure> {
+    let name = match given.get_str("password-file") {
+        Some(INPUT) => String::new(alloc),
+        Some(name) => format!(in alloc; "{name}")?,
+        None => format!(in alloc; "{}", options.name)?,
+    };
+    Ok(name)
 }
 
 /// Says on standard error if others may read the file that has the password.

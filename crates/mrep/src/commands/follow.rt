@@ -68,9 +68,9 @@ fn follow_place<W: Write, E: Write>(
 {
     let wanted = Wanted::of(rt.alloc(), given)?;
     let following = Following::of(rt, given, options, &wanted)?;
-    let secret = secret_of(given, options);
-    warn(rt, secret, err);
-    let (pulse, reports) = wanted.reports(rt, None, &[secret], err)?;
+    let secret = secret_of(rt.alloc(), given, options)?;
+    warn(rt, secret.as_str(), err);
+    let (pulse, reports) = wanted.reports(rt, None, &[secret.as_str()], err)?;
     let host = Host {
         rt,
         name: place.host.as_str(),
