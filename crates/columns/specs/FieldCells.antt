@@ -81,10 +81,16 @@ abbrev pub IsTimestampFieldCell : ℕ → List ℕ → CellValue → Type 0
 IsTimestampFieldCell digits field cell =
     (at : Timestamp) × (at.fraction.digits ≡ digits) × (field ≡ stamp_text at) × (cell ≡ bytes_cell (stamp_bytes at))
 
--- The field is the hexadecimal digits of at most so many bytes, and the cell is these without the padding at their end.
+-- How many bytes a field stands for: of a BINARY just as many as the column has, zeros at the end among them, and of others at most so
+-- many.
+abbrev pub HasLength : TypeName → ℕ → ℕ → Type 0
+HasLength name.Binary most length = length ≡ most
+HasLength _ most length = length ≤ most
+
+-- The field is the hexadecimal digits of so many bytes, and the cell is these without the padding at their end.
 abbrev pub IsHexFieldCell : ℕ → TypeName → CharacterSet → List ℕ → CellValue → Type 0
 IsHexFieldCell most kind set field cell =
-    (all bytes : List ℕ) × (decode_of field ≡ Ok all) × (length all ≤ most) × IsPadded (padding kind set) bytes all ×
+    (all bytes : List ℕ) × (decode_of field ≡ Ok all) × HasLength kind most (length all) × IsPadded (padding kind set) bytes all ×
     IsUnpadded (padding kind set) bytes × (cell ≡ bytes_cell bytes)
 
 -- The cell is that of the value that the field is in a column of this type, as a server sends it. A character takes at

@@ -1,6 +1,6 @@
 //! The cell of the value that a field of a line is, of any type.
 
-ghost use Rattle.std.specs.Prelude.{◌≡◌, ◌≤◌, ◌<◌, ◌++◌, ℕ, List, length, Ok, Err, ⊤, IsTrue, IfOk, IfErr, OnErr, MatchResult};
+ghost use Rattle.std.specs.Prelude.{◌≡◌, ◌≤◌, ◌<◌, ◌++◌, ℕ, List, length, Ok, Err, ⊤, IsTrue, IfOk, IfErr, OnErr, MatchBool, MatchResult};
 ghost use Rattle.std.specs.Str.Parse.{IsNumeral};
 ghost use Rattle.binlog.specs.Cell.{CellValue};
 ghost use Rattle.columns.specs.DataType.{is_digits};
@@ -10,7 +10,7 @@ ghost use Rattle.columns.specs.WrittenCells.{IsWritten};
 ghost use Rattle.columns.specs.Fields.{IsSignedNumeral, AreFourDigits};
 ghost use Rattle.columns.specs.FieldForms.{IsDateForm, IsMomentForm, IsSpanForm};
 ghost use Rattle.columns.specs.FieldDecimals.{IsDecimalForm};
-ghost use Rattle.columns.specs.FieldCells.{IsIntegerFieldCell, IsDecimalFieldCell, IsFloatFieldCell, IsDoubleFieldCell, IsBitsFieldCell, IsYearFieldCell, IsDateFieldCell, IsTimeFieldCell, IsDatetimeFieldCell, IsTimestampFieldCell, IsHexFieldCell, AreHexDigits, IsReal, IsFieldCell, IsFieldForm, IsCellFieldFault};
+ghost use Rattle.columns.specs.FieldCells.{IsIntegerFieldCell, IsDecimalFieldCell, IsFloatFieldCell, IsDoubleFieldCell, IsBitsFieldCell, IsYearFieldCell, IsDateFieldCell, IsTimeFieldCell, IsDatetimeFieldCell, IsTimestampFieldCell, HasLength, IsHexFieldCell, AreHexDigits, IsReal, IsFieldCell, IsFieldForm, IsCellFieldFault};
 ghost use Rattle.columns.specs.FieldWrites.{WritesField};
 ghost use Rattle.columns.specs.declared.value.field_fault.FieldFault.TheVariants as fault;
 ghost use Rattle.columns.specs.declared.written_cell.WrittenCell.TheVariants as written;
@@ -268,7 +268,7 @@ fn write_timestamp(digits: u8, field: &[u8], out: &mut Vec<u8>) -> Result<Writte
     }
 }
 
-/// Writes the cell of the field of a text or of bytes of at most so many bytes.
+/// Writes the cell of the field of a text or of bytes, of at most so many bytes, or a BINARY of just as many.
 fn write_hex(
     most: usize,
     kind: DataType,
@@ -284,8 +284,18 @@ fn write_hex(
         Ok(bytes) => bytes,
         Err(wrong) => return Err(wrong),
     };
-    if bytes.len() > most {
+    if !has_length(kind.name, most, bytes.len()) {
         return Err(FieldFault::Range);
     }
     appended(append(kind.unpadded(set, &bytes), out))
+}
+
+/// Whether a field of a column of this type may stand for so many bytes.
+fn has_length(name: TypeName, most: usize, length: usize) -> bool
+    ensures { MatchBool result (HasLength name most length) (HasLength name most length → ⊥) }
+{
+    match name {
+        TypeName::Binary => length == most,
+        _ => length <= most,
+    }
 }

@@ -1,6 +1,7 @@
-use Rattle.std.proofs.Common.{refl, subst, arith}
+use Rattle.std.proofs.Common.{Bool, refl, subst, ◌∙◌}
+use Rattle.std.specs.Prelude.{MatchBool}
 use Rattle.columns.specs.Padding.{padding, IsPadded}
-use Rattle.columns.specs.FieldCells.{IsHexFieldCell, AreHexDigits}
+use Rattle.columns.specs.FieldCells.{HasLength, IsHexFieldCell, AreHexDigits}
 use Rattle.columns.proofs.FieldWrites.{written_field}
 use Rattle.columns.proofs.field_cell.write_hex.Goals as goal
 
@@ -11,7 +12,7 @@ returns c =
       c.in-Ok.bytes.items,
       c.unpadded.result.now,
       c.in-Ok.ensures.found,
-      omega (arith, c.if-len-most.false, c.len.ensures, c.in-Ok.bytes.ok.0),
+      subst (HasLength c.args.kind.name c.args.most) (c.len.ensures ∙ c.in-Ok.bytes.ok.0) (subst (λ (b : Bool). MatchBool b (HasLength c.args.kind.name c.args.most c.len.result) (HasLength c.args.kind.name c.args.most c.len.result → ⊥)) c.if-not-has_length.false c.has_length.ensures),
       subst (IsPadded pad c.unpadded.result.now) c.deref.ensures.value c.unpadded.ensures.padded,
       c.unpadded.ensures.sent,
       refl,
