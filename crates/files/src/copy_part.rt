@@ -4,7 +4,7 @@ use crate::fault::FileFault;
 use crate::names::{EXISTS, Names};
 use crate::part_file::{Claim, Leftover, begin, give_name, remove};
 use crate::sqlite_file::may_be_left;
-use crate::what_is_named::private;
+use crate::what_is_named::{folder_of, private};
 use std::fs::File;
 use std::os::unix::fs::FileExt;
 use std::{fs, io};
@@ -72,9 +72,7 @@ impl Part {
     /// replace a file, and one has the name now.
     pub fn put(&self, rt: &HostRuntime, to: &str, replaces: bool) -> Result<(), FileFault> {
         self.file.sync_all()?;
-        let mut folder = fs::canonicalize(rt, self.names.file.as_str())?;
-        folder.pop();
-        let folder = fs::open(rt, folder.as_str())?;
+        let folder = folder_of(rt, self.names.file.as_str())?;
         if !self.name(rt, to, replaces)? {
             return Err(FileFault::Unusable(EXISTS));
         }

@@ -1,7 +1,7 @@
 //! The file of a change feed: how it is found, made, locked, written to its end, cut back and removed.
 
 use crate::fault::FileFault;
-use crate::what_is_named::{PRIVATE, is_empty, is_named};
+use crate::what_is_named::{PRIVATE, is_empty, is_named, sync_name};
 use std::alloc::AllocError;
 use std::fs::{File, OpenOptions, TryLockError};
 use std::io::ErrorKind;
@@ -31,7 +31,7 @@ pub struct FeedFile {
 }
 
 impl FeedFile {
-    /// Opens the file of a feed, or makes it, for its owner alone. It must be none of those that the command uses: the
+    /// Opens the file of a feed, or makes it, for its owner alone, and waits until the disk has its name. It must be none of those that the command uses: the
     /// database, what lies beside it, and the others.
     pub fn open(
         rt: &HostRuntime,
@@ -42,7 +42,7 @@ impl FeedFile {
         let Some(mut feed) = open(rt, name)? else {
             return Err(FileFault::Unusable(FED));
         };
-        match feed.find_end(rt, db, others) {
+        match feed.find_end(rt, name, db, others) {
             Ok(true) => Ok(feed),
             Ok(false) => {
                 feed.discard(rt, name);
@@ -56,14 +56,25 @@ impl FeedFile {
     }
 
     /// Finds out whether the file ends inside a line. `false` if it is one that the command uses.
-    fn find_end(&mut self, rt: &HostRuntime, db: &str, others: &[&str]) -> io::Result<bool> {
+    fn find_end(
+        &mut self,
+        rt: &HostRuntime,
+        name: &str,
+        db: &str,
+        others: &[&str],
+    ) -> io::Result<bool> {
         if !self.is_regular {
             return Ok(true);
         }
         if is_in_use(rt, &self.file, db, others)? {
             return Ok(false);
         }
-        self.is_cut = !is_empty(&self.file) && !self.ends_with(b"\n")?;
+        if is_empty(&self.file) {
+            // It may be one that a killed process has made.
+            sync_name(rt, name)?;
+        } else {
+            self.is_cut = !self.ends_with(b"\n")?;
+        }
         Ok(true)
     }
 

@@ -6,6 +6,7 @@
 use crate::fault::FileFault;
 use crate::input::Input;
 use crate::part_file::{Claim, Leftover, begin};
+use crate::what_is_named::folder_of;
 use std::fs::File;
 use std::io::{ErrorKind, Read, Write};
 use std::{fs, io};
@@ -43,7 +44,10 @@ impl KeptInput {
             Claim::InUse => return Err(FileFault::Unusable(IN_USE)),
             Claim::Foreign => return Err(FileFault::Unusable(HAS_BYTES)),
         };
+        // The disk knows that the name is gone before the file has bytes: a power failure does not bring them back under it.
+        let folder = folder_of(rt, name.as_str())?;
         fs::remove_file(rt, name.as_str())?;
+        folder.sync_all()?;
         let size = keep(rt, &mut file)?;
         Ok(KeptInput { file, size })
     }

@@ -89,6 +89,22 @@ pub(crate) fn place_of(rt: &HostRuntime, name: &str) -> Result<Option<String>, A
     }
 }
 
+/// The folder of the file that a name leads to.
+pub fn folder_of(rt: &HostRuntime, name: &str) -> io::Result<File> {
+    let mut folder = fs::canonicalize(rt, name)?;
+    folder.pop();
+    fs::open(rt, folder.as_str())
+}
+
+/// Waits until the disk has the name of a file. One without a name has none to lose.
+pub fn sync_name(rt: &HostRuntime, name: &str) -> io::Result<()> {
+    match folder_of(rt, name) {
+        Ok(folder) => folder.sync_all(),
+        Err(cause) if cause.kind() == ErrorKind::NotFound => Ok(()),
+        Err(cause) => Err(cause),
+    }
+}
+
 /// Whether a file is a binary log of MySQL, by its first bytes (MySQL Source Documentation, "Binary Log Header").
 pub fn is_log_file(rt: &HostRuntime, name: &str) -> bool {
     if !is_file(rt, name) {

@@ -41,7 +41,8 @@ pub enum FeedEntry<'a> {
 pub struct Feed {
     /// The file, or `None` for the output of the command.
     file: Option<FeedFile>,
-    encoding: Encoding,
+    /// How bytes are printed, where there are any.
+    encoding: Option<Encoding>,
     alloc: Global,
 }
 
@@ -50,7 +51,7 @@ impl Feed {
     pub fn to_output(alloc: Global, encoding: Encoding) -> Feed {
         Feed {
             file: None,
-            encoding,
+            encoding: Some(encoding),
             alloc,
         }
     }
@@ -62,7 +63,7 @@ impl Feed {
         name: &str,
         db: &str,
         others: &[&str],
-        encoding: Encoding,
+        encoding: Option<Encoding>,
     ) -> Result<Feed, FileFault> {
         let file = FeedFile::open(rt, name, db, others)?;
         Ok(Feed {
@@ -107,8 +108,10 @@ impl Feed {
             return write_to_output(form, entry, out);
         };
         if let FeedEntry::Opened(executed) = entry {
-            let line = open_line(self.alloc, executed)?;
+            let line = open_line(self.alloc, executed, self.encoding)?;
             if file.ends_with(line.as_bytes())? {
+                // A killed run may not have waited for the disk.
+                file.sync()?;
                 return Ok(());
             }
         }
@@ -128,7 +131,7 @@ impl Feed {
 #[derive(Clone, Copy)]
 struct Form<'d> {
     alloc: Global,
-    encoding: Encoding,
+    encoding: Option<Encoding>,
     /// The tables that are described, if rows have names and types.
     tables: Option<&'d DescribedTables>,
     /// What the events of the transaction say of it besides its changes.
@@ -173,9 +176,28 @@ fn write_to_file(form: Form<'_>, entry: FeedEntry<'_>, file: &FeedFile) -> Resul
     Ok(())
 }
 
-/// The line of the executed set.
-fn open_line(alloc: Global, executed: &str) -> Result<String, AllocError> {
-    format!(in alloc; "{{\"type\":\"open\",\"executed\":\"{executed}\"}}\n")
+impl Form<'_> {
+    /// How bytes are printed.
+    fn bytes(self) -> Encoding {
+        self.encoding.unwrap_or(Encoding::Hex)
+    }
+}
+
+/// The line of the executed set, and of how bytes are printed, where there are any.
+fn open_line(
+    alloc: Global,
+    executed: &str,
+    encoding: Option<Encoding>,
+) -> Result<String, AllocError> {
+    match encoding {
+        Some(encoding) => {
+            let word = encoding.word();
+            format!(in alloc;
+                "{{\"type\":\"open\",\"executed\":\"{executed}\",\"bytes\":\"{word}\"}}\n"
+            )
+        }
+        None => format!(in alloc; "{{\"type\":\"open\",\"executed\":\"{executed}\"}}\n"),
+    }
 }
 
 /// Writes the lines of an entry.
@@ -186,7 +208,7 @@ fn write_entry<W: Write>(
 ) -> Result<(), RowError> {
     match entry {
         FeedEntry::Opened(executed) => {
-            let line = open_line(form.alloc, executed)?;
+            let line = open_line(form.alloc, executed, form.encoding)?;
             out.write_all(line.as_bytes())?;
         }
         FeedEntry::Changes(delivery) => write_changes(form, delivery, out)?,
@@ -364,7 +386,7 @@ fn write_side<W: Write>(
         return Ok(());
     };
     write!(out, ",\"{side}\":")?;
-    write_image(form.alloc, row, form.encoding, out)
+    write_image(form.alloc, row, form.bytes(), out)
 }
 
 /// Writes the row before or after a change, or its key, if there is one, with names and types.
@@ -379,5 +401,5 @@ fn write_typed_side<'d>(
         return Ok(());
     };
     write!(line, ",\"{side}\":")?;
-    write_cells(form.alloc, form.encoding, table, row, side == "key", line)
+    write_cells(form.alloc, form.bytes(), table, row, side == "key", line)
 }

@@ -4,7 +4,6 @@ use crate::change_feed::{Feed, FeedEntry};
 use crate::misfit::RowError;
 use crate::stamps::Stamps;
 use files::FileFault;
-use formats::Encoding;
 use gather::{Changes, Delivery};
 use gtid::Gtid;
 use std::alloc::Global;
@@ -42,7 +41,7 @@ impl SkipFeed<'_> {
     /// skipped.
     pub fn begin(self, alloc: Global, executed: &str, gtid: Gtid) -> Result<Skipping, SkipError> {
         let SkipFeed { rt, name, db } = self;
-        let feed = match Feed::to_file(rt, name, db, &[], Encoding::Hex) {
+        let feed = match Feed::to_file(rt, name, db, &[], None) {
             Ok(feed) => feed,
             Err(fault) => return Err(SkipError::File(fault)),
         };
