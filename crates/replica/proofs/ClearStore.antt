@@ -20,13 +20,13 @@ use Rattle.replica.specs.declared.connections.NoMemory.{NoMemory}
 use Rattle.replica.specs.declared.clearing.ClearEnd.{ClearEnd}
 use Rattle.replica.specs.declared.clearing.ClearEnd.TheVariants.{Repeat, NotFollowed, OtherSet, Failed}
 use Rattle.replica.specs.declared.clearing.TableRows.{TableRows}
-use Rattle.replica.specs.Noted.{opened}
+use Rattle.replica.specs.Noted.{Excludes, opened}
 use Rattle.replica.specs.Alone.{IsOwnOrHalted}
 use Rattle.replica.specs.Copies.{HasJust}
 use Rattle.replica.specs.Clear.{TableClear, IsCleared, is_in_table, IsToBeCleared, IsClearedAt, MayEndClear}
 use Rattle.replica.specs.Clearing.{deletes_of, AreDeletesOf, AppendsDeletes, TakesRow, gathered_of, end_by, ListsDeletes, HasCleared, IsClearedSinceOpening}
 use Rattle.replica.proofs.RowDeletes.{others_stay, all_gone, none_refused, as_many}
-use Rattle.replica.proofs.Notices.{weaker_leaves, since_through}
+use Rattle.replica.proofs.Notices.{weaker_leaves, since_through, none_let}
 use Rattle.replica.proofs.InOrder.{whole_leaves}
 
 -- ---- Rows that are listed.
@@ -95,8 +95,8 @@ opened_missed was None executed waits = tt
 opened_missed None (Some is) executed waits = absurd waits
 opened_missed (Some was) (Some is) executed waits = tt
 
-abbrev pub opened_noted : (names : Names) (old : Content) (ids : Ids) (was is : Account) → ids ≡ old.executed → HasNotices was is (opened ids ∷ []) → IsNotedSinceOpening names old old was is []
-opened_noted names old ids was is same noticed = record {
+abbrev pub opened_noted : (names : Names) (old : Content) (ids : Ids) (was is : Account) → ids ≡ old.executed → HasNotices was is (opened ids ∷ []) → Excludes was ids is → IsNotedSinceOpening names old old was is []
+opened_noted names old ids was is same noticed excludes = record {
   noted_of = record {
     notices = opened ids ∷ [];
     noted = noticed.noted;
@@ -112,6 +112,7 @@ opened_noted names old ids was is same noticed = record {
   begins = same;
   missed = λ some. absurd (some refl);
   fails = tt;
+  excluded = none_let was is ids old.executed same excludes;
 }
 
 -- ---- A store.

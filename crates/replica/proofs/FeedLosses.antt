@@ -1,10 +1,10 @@
--- Lines that are missing at the end of a run make no difference to a reader of the next open.
+-- Lines that are missing or broken at the end of a run make no difference to a reader of the next open.
 use Rattle.replica.proofs.Names.{◌≡◌, inl, inr, Bool, true, false, List, [], ◌∷◌, ◌++◌, map, length, Option, Some, None, Result, Ok, Err, refl, sym, ap, subst, ◌∙◌, append_assoc, append-nil, if◌then◌else◌, AllByRecursion, eq_by_cmp, Equal-is, cases_Bool, false≢true, or_cases, or_left, Id, Ids, id_cmp, id_cmp_total, id_cmp-same, Names, ChangeValue, DeliveryValue, Content, Reason, AppliesAll, Notice, stopped, ended, applied_in, IsMadeBy, LeadsBy, BeginsWith, fails_by, EndsAtFailure, IsLeftOfNoted, IsOneMoreNoted}
 use Rattle.std.proofs.Common.{length-append}
 use Rattle.std.specs.Prelude.{◌||◌}
 use Rattle.std.specs.FinSet as set
 use Rattle.replica.specs.Noted.{opened, before, after}
-use Rattle.replica.specs.Feed.{Line, open_line, change_line, commit_line, rollback_line, gtid_of, lines_after, lines_of, Reader, kept_changes, with_used, after_open, read_line, read_lines, at_first, with_changes, MayBeMissing, AreFed, all_lines}
+use Rattle.replica.specs.Feed.{Line, open_line, change_line, commit_line, rollback_line, gtid_of, lines_after, lines_of, Reader, kept_changes, with_used, after_open, read_line, read_lines, FileLine, whole_line, cut_line, HaveNoOpen, unbroken, read_file, at_first, with_changes, MayBeMissing, IsHole, AreFed, all_lines}
 use Rattle.replica.proofs.Notices.{all_applied}
 use Rattle.replica.proofs.Push.{applies_push}
 use Rattle.replica.proofs.Transactions.{itself, still}
@@ -189,7 +189,7 @@ taken_grows r (change_line id c ∷ lines) = taken_grows (read_line r (change_li
 taken_grows r (commit_line id ∷ lines) = taken_then r.taken (read_line r (commit_line id)).taken (read_lines (read_line r (commit_line id)) lines).taken (taken_one id (kept_changes r.kept) r) (taken_grows (read_line r (commit_line id)) lines)
 taken_grows r (rollback_line id ∷ lines) = taken_grows (read_line r (rollback_line id)) lines
 
-pub grows : (r : Reader) (xs ys : List Line) → (more : List DeliveryValue) × ((read_lines r (xs ++ ys)).taken ≡ (read_lines r xs).taken ++ more)
+grows : (r : Reader) (xs ys : List Line) → (more : List DeliveryValue) × ((read_lines r (xs ++ ys)).taken ≡ (read_lines r xs).taken ++ more)
 grows r xs ys =
     let g = taken_grows (read_lines r xs) ys in
     (g.0, ap (λ (s : Reader). s.taken) (read_lines-append r xs ys) ∙ g.1)
@@ -270,36 +270,113 @@ module _ (names : Names) (old new left : Content) (lines lost : List Line) (r : 
   by_notices (after d answer ∷ ns) leads begins fails left_is are may = absurd begins
   by_notices (ended end goes_on ∷ ns) leads begins fails left_is are may = absurd begins
 
-all_runs : (names : Names) (old last : Content) (runs : List (List Line)) → AreFed names old runs last → (r : Reader) (ds : List DeliveryValue) → IsUpTo r old ds
-    → (more : List DeliveryValue) × AppliesAll names old more (length more) last × IsUpTo (read_lines r (all_lines runs)) last (ds ++ more)
-all_runs names old last [] fed r ds is = (
+-- ---- Lines of a file.
+
+-- A part of a file and what follows it are read one after the other.
+split_file : (drops : Bool) (part more : List FileLine) → (later : Bool) × (unbroken drops (part ++ more) ≡ unbroken drops part ++ unbroken later more)
+split_file drops [] more = (drops, refl)
+split_file drops (cut_line ∷ part) more = split_file true part more
+split_file drops (whole_line (open_line ids) ∷ part) more = let s = split_file false part more in (s.0, ap (λ (l : List Line). open_line ids ∷ l) s.1)
+split_file true (whole_line (change_line id c) ∷ part) more = split_file true part more
+split_file true (whole_line (commit_line id) ∷ part) more = split_file true part more
+split_file true (whole_line (rollback_line id) ∷ part) more = split_file true part more
+split_file false (whole_line (change_line id c) ∷ part) more = let s = split_file false part more in (s.0, ap (λ (l : List Line). change_line id c ∷ l) s.1)
+split_file false (whole_line (commit_line id) ∷ part) more = let s = split_file false part more in (s.0, ap (λ (l : List Line). commit_line id ∷ l) s.1)
+split_file false (whole_line (rollback_line id) ∷ part) more = let s = split_file false part more in (s.0, ap (λ (l : List Line). rollback_line id ∷ l) s.1)
+
+-- after a part of a file a reader has used a part of what it has used after more of it
+pub file_grows : (r : Reader) (part more : List FileLine) → (ds : List DeliveryValue) × ((read_file r (part ++ more)).taken ≡ (read_file r part).taken ++ ds)
+file_grows r part more =
+    let s = split_file false part more in
+    let g = grows r (unbroken false part) (unbroken s.0 more) in
+    (g.0, ap (λ (l : List Line). (read_lines r l).taken) s.1 ∙ g.1)
+
+-- lines that are whole are all read, after an open
+all_whole : (lines : List Line) (rest : List FileLine) → unbroken false (map whole_line lines ++ rest) ≡ lines ++ unbroken false rest
+all_whole [] rest = refl
+all_whole (open_line ids ∷ lines) rest = ap (λ (l : List Line). open_line ids ∷ l) (all_whole lines rest)
+all_whole (change_line id c ∷ lines) rest = ap (λ (l : List Line). change_line id c ∷ l) (all_whole lines rest)
+all_whole (commit_line id ∷ lines) rest = ap (λ (l : List Line). commit_line id ∷ l) (all_whole lines rest)
+all_whole (rollback_line id ∷ lines) rest = ap (λ (l : List Line). rollback_line id ∷ l) (all_whole lines rest)
+
+-- no line is read after one that is cut, up to an open
+none_read : (lines rest : List FileLine) → HaveNoOpen lines → unbroken true (lines ++ rest) ≡ unbroken true rest
+none_read [] rest none = refl
+none_read (cut_line ∷ lines) rest none = none_read lines rest none
+none_read (whole_line (open_line ids) ∷ lines) rest none = absurd none
+none_read (whole_line (change_line id c) ∷ lines) rest none = none_read lines rest none
+none_read (whole_line (commit_line id) ∷ lines) rest none = none_read lines rest none
+none_read (whole_line (rollback_line id) ∷ lines) rest none = none_read lines rest none
+
+after_broken : (drops : Bool) (broken rest : List FileLine) → IsHole broken → (later : Bool) × (unbroken drops (broken ++ rest) ≡ unbroken later rest)
+after_broken drops [] rest is = (drops, refl)
+after_broken drops (cut_line ∷ lines) rest is = (true, none_read lines rest is)
+after_broken drops (whole_line line ∷ lines) rest is = absurd is
+
+-- no lines, or lines whose first is an open
+abbrev BeginOpen : List Line → Type 0
+BeginOpen [] = Unit {0}
+BeginOpen (open_line ids ∷ lines) = Unit {0}
+BeginOpen (change_line id c ∷ lines) = ⊥
+BeginOpen (commit_line id ∷ lines) = ⊥
+BeginOpen (rollback_line id ∷ lines) = ⊥
+
+begin_open : (lines more : List Line) → BeginOpen (lines ++ more) → BeginOpen lines
+begin_open [] more is = tt
+begin_open (open_line ids ∷ lines) more is = tt
+begin_open (change_line id c ∷ lines) more is = is
+begin_open (commit_line id ∷ lines) more is = is
+begin_open (rollback_line id ∷ lines) more is = is
+
+noted_open : (ids : Ids) (notices : List Notice) → BeginsWith ids notices → BeginOpen (lines_of notices)
+noted_open ids [] begins = absurd begins
+noted_open ids (opened others ∷ ns) begins = tt
+noted_open ids (before d ∷ ns) begins = absurd begins
+noted_open ids (stopped d ∷ ns) begins = absurd begins
+noted_open ids (after d answer ∷ ns) begins = absurd begins
+noted_open ids (ended end goes_on ∷ ns) begins = absurd begins
+
+-- what is read of a run, whatever was cut before it
+read_run : (drops : Bool) (lines : List Line) (broken rest : List FileLine) → BeginOpen lines → IsHole broken → (later : Bool) × (unbroken drops (map whole_line lines ++ (broken ++ rest)) ≡ lines ++ unbroken later rest)
+read_run drops [] broken rest begin is = after_broken drops broken rest is
+read_run drops (open_line ids ∷ lines) broken rest begin is =
+    let s = after_broken false broken rest is in
+    (s.0, ap (λ (l : List Line). open_line ids ∷ l) (all_whole lines (broken ++ rest) ∙ ap (λ (l : List Line). lines ++ l) s.1))
+read_run drops (change_line id c ∷ lines) broken rest begin is = absurd begin
+read_run drops (commit_line id ∷ lines) broken rest begin is = absurd begin
+read_run drops (rollback_line id ∷ lines) broken rest begin is = absurd begin
+
+all_runs : (names : Names) (old last : Content) (runs : List (List FileLine)) → AreFed names old runs last → (drops : Bool) (r : Reader) (ds : List DeliveryValue) → IsUpTo r old ds
+    → (more : List DeliveryValue) × AppliesAll names old more (length more) last × (with_changes (read_lines r (unbroken drops (all_lines runs ++ whole_line (open_line last.executed) ∷ []))).taken ≡ with_changes (ds ++ more))
+all_runs names old last [] fed drops r ds is = (
   [],
   (refl, fed),
-  record {
-    taken = ap (λ (c : Content). with_changes (read_line r (open_line c.executed)).taken) fed ∙ is.taken ∙ ap with_changes (sym (append-nil ds));
-    within = λ q used. ap (λ (c : Content). set.contains c.executed q) fed ∙ is.within q used;
-  },
+  ap (λ (c : Content). with_changes (read_line r (open_line c.executed)).taken) fed ∙ is.taken ∙ ap with_changes (sym (append-nil ds)),
 )
-all_runs names old last (lines ∷ runs) (left, fed, rest) r ds is =
-    let one = by_notices names old fed.new left lines fed.missing r ds is fed.notices fed.leads fed.begins fed.fails fed.left_is fed.lines_are fed.may in
-    let two = all_runs names left last runs rest (read_lines r lines) (ds ++ one.0) one.2 in (
+all_runs names old last (lines ∷ runs) (left, fed, rest) drops r ds is =
+    let begin : BeginOpen fed.written = begin_open fed.written fed.missing (subst BeginOpen fed.lines_are (noted_open old.executed fed.notices fed.begins)) in
+    let one = by_notices names old fed.new left fed.written fed.missing r ds is fed.notices fed.leads fed.begins fed.fails fed.left_is fed.lines_are fed.may in
+    let last_open = whole_line (open_line last.executed) ∷ [] in
+    let run = read_run drops fed.written fed.broken (all_lines runs ++ last_open) begin fed.is_broken in
+    let file : (lines ++ all_lines runs) ++ last_open ≡ map whole_line fed.written ++ (fed.broken ++ (all_lines runs ++ last_open)) =
+    append_assoc lines (all_lines runs) last_open
+    ∙ ap (λ (l : List FileLine). l ++ (all_lines runs ++ last_open)) fed.in_file
+    ∙ append_assoc (map whole_line fed.written) fed.broken (all_lines runs ++ last_open) in
+    let two = all_runs names left last runs rest run.0 (read_lines r fed.written) (ds ++ one.0) one.2 in (
       one.0 ++ two.0,
       lengths names old left last one.0 two.0 one.1 two.1,
-      record {
-        taken = ap (λ (x : Reader). with_changes (read_line x (open_line last.executed)).taken) (read_lines-append r lines (all_lines runs)) ∙ two.2.taken ∙ ap with_changes (append_assoc ds one.0 two.0);
-        within = λ q used. two.2.within q (ap (λ (x : Reader). set.contains x.used q) (sym (read_lines-append r lines (all_lines runs))) ∙ used);
-      },
+      ap (λ (l : List FileLine). with_changes (read_lines r (unbroken drops l)).taken) file
+          ∙ ap (λ (l : List Line). with_changes (read_lines r l).taken) run.1
+          ∙ ap (λ (x : Reader). with_changes x.taken) (read_lines-append r fed.written (unbroken run.0 (all_lines runs ++ last_open)))
+          ∙ two.2
+          ∙ ap with_changes (append_assoc ds one.0 two.0),
     )
 
 -- A reader of all runs, and of the set that is executed after them, has used exactly what was applied.
-pub consumed : (names : Names) (first last : Content) (runs : List (List Line)) → AreFed names first runs last
-    → (ds : List DeliveryValue) × AppliesAll names first ds (length ds) last × (with_changes (read_lines at_first (all_lines runs ++ open_line last.executed ∷ [])).taken ≡ with_changes ds)
+pub consumed : (names : Names) (first last : Content) (runs : List (List FileLine)) → AreFed names first runs last
+    → (ds : List DeliveryValue) × AppliesAll names first ds (length ds) last × (with_changes (read_file at_first (all_lines runs ++ whole_line (open_line last.executed) ∷ [])).taken ≡ with_changes ds)
 consumed names first last runs fed =
-    let all = all_runs names first last runs fed at_first [] (record { taken = refl; within = λ q used. absurd (false≢true (sym (set.contains-empty id_cmp q) ∙ used)) }) in (
-      all.0,
-      all.1,
-      ap (λ (x : Reader). with_changes x.taken) (read_lines-append at_first (all_lines runs) (open_line last.executed ∷ [])) ∙ all.2.taken,
-    )
+    all_runs names first last runs fed false at_first [] (record { taken = refl; within = λ q used. absurd (false≢true (sym (set.contains-empty id_cmp q) ∙ used)) })
 
 -- An open that comes again changes nothing.
 pub again : (r : Reader) (ids : Ids) → read_line (read_line r (open_line ids)) (open_line ids) ≡ read_line r (open_line ids)

@@ -1,9 +1,9 @@
 -- A reader of all lines of a change feed uses what was applied.
 use Rattle.replica.proofs.Names.{◌≡◌, ◌⊎◌, inl, inr, Bool, true, false, List, [], ◌∷◌, ◌++◌, map, length, Option, Some, None, Result, Ok, Err, refl, sym, ap, ap₂, subst, ◌∙◌, append_assoc, append-nil, arith, if◌then◌else◌, eq_by_cmp, false≢true, false_from_ne_true, or_cases, or_left, or_right, Id, Ids, id_cmp, id_cmp_total, Names, ChangeValue, DeliveryValue, Content, HasOutcome, done, StoreFault, Reason, Database, Memory, AppliesAll, Notice, stopped, ended, applied_in, IsMadeBy, LeadsBy, fails_by, EndsAtFailure, IsOneMoreNoted, IsLeftOfNoted}
 use Rattle.std.specs.FinSet as set
-use Rattle.replica.specs.Noted.{opened, before, after, LetsNone, IsDatabaseFailure}
+use Rattle.replica.specs.Noted.{opened, before, after, IsDatabaseFailure}
 use Rattle.replica.specs.Feed.{Line, open_line, change_line, commit_line, rollback_line, gtid_of, lines_after, lines_of, Reader, kept_changes, with_used, after_open, read_line, read_lines, has_change, with_changes}
-use Rattle.replica.proofs.Notices.{unchanged, unapplied}
+use Rattle.replica.proofs.Notices.{unchanged, unapplied, lets_none_applied, none_left_more}
 use Rattle.replica.proofs.Transactions.{itself, still}
 
 -- ---- What a reader keeps.
@@ -115,27 +115,6 @@ pub kind_of : (id : Id) (reason : Reason) → ((cause : StoreFault) × (reason �
 kind_of id (Database cause) = inl (cause, refl)
 kind_of id Memory = inr (inl refl)
 kind_of id _ = inr (inr (refl, refl, λ bad. bad))
-
--- none is applied where none is to be
-lets_none_applied : (names : Names) (old : Content) (ns : List Notice) (new : Content) → LeadsBy names old ns new → LetsNone ns → applied_in ns ≡ []
-lets_none_applied names old [] new leads lets = refl
-lets_none_applied names old (opened ids ∷ ns) new leads lets = lets_none_applied names old ns new leads.1 lets
-lets_none_applied names old (before d ∷ ns) new leads lets = absurd lets
-lets_none_applied names old (stopped d ∷ ns) new leads lets = lets_none_applied names old ns new leads.2 lets
-lets_none_applied names old (after d (Ok true) ∷ ns) new leads lets = absurd leads
-lets_none_applied names old (after d (Ok false) ∷ ns) new leads lets = lets_none_applied names old ns new leads.1 lets
-lets_none_applied names old (after d (Err reason) ∷ ns) new leads lets = lets_none_applied names old ns new leads.1 lets
-lets_none_applied names old (ended end true ∷ ns) new leads lets = lets_none_applied names old ns new leads lets
-lets_none_applied names old (ended end false ∷ ns) new leads lets = ap applied_in leads.0
-
--- and none is left one more
-none_left : (names : Names) (new left : Content) (ns : List Notice) → LetsNone ns → IsOneMoreNoted names new ns left → ⊥
-none_left names new left [] lets more = more
-none_left names new left (opened ids ∷ ns) lets more = none_left names new left ns lets more
-none_left names new left (before d ∷ ns) lets more = absurd lets
-none_left names new left (stopped d ∷ ns) lets more = none_left names new left ns lets more
-none_left names new left (after d answer ∷ ns) lets more = none_left names new left ns lets more.1
-none_left names new left (ended end goes_on ∷ ns) lets more = none_left names new left ns lets more
 
 -- a transaction with changes, or none
 pub up_to_one : (t : List DeliveryValue) (d : DeliveryValue) → d.changes ≡ [] → with_changes t ≡ with_changes (t ++ d ∷ [])
@@ -273,7 +252,7 @@ reads_all names (before d ∷ stopped e ∷ ns) old new left leads fails is used
 reads_all names (before d ∷ ended end goes_on ∷ ns) old new left leads fails is used taken within = absurd leads
 reads_all names (stopped d ∷ ns) old new left leads fails (inl same) used taken within =
     nothing names old left used taken (same ∙ unapplied names old ns new leads.2 (lets_none_applied names old ns new leads.2 leads.1)) within
-reads_all names (stopped d ∷ ns) old new left leads fails (inr more) used taken within = absurd (none_left names new left ns leads.1 more)
+reads_all names (stopped d ∷ ns) old new left leads fails (inr more) used taken within = absurd (none_left_more names new left ns leads.1 more)
 reads_all names (after d (Ok true) ∷ ns) old new left leads fails is used taken within = absurd leads
 reads_all names (after d (Ok false) ∷ ns) old new left leads fails (inl same) used taken within = reads_all names ns old new left leads.1 fails.1 (inl same) used taken within
 reads_all names (after d (Ok false) ∷ ns) old new left leads fails (inr more) used taken within = reads_all names ns old new left leads.1 fails.1 (inr more.1) used taken within

@@ -2,7 +2,7 @@
 use Rattle.replica.proofs.Names.{◌≡◌, ◌≢◌, ◌∙◌, List, [], ◌∷◌, ◌++◌, Bool, false, refl, sym, subst, Ghosts, HasCleanDisk, Ids, Content, Store, HoldsAs, database, Ended, Account, HasNotices, WasMissing, IsLedSinceOpening, ended, KeepsStore, KeepsObserved, KeepsSinceOpening}
 use Rattle.std.specs.Prelude.{not}
 use Rattle.store.specs.Store.{IsBroken}
-use Rattle.replica.specs.Noted.{HasNoNotice, opened}
+use Rattle.replica.specs.Noted.{HasNoNotice, Excludes, opened}
 use Rattle.replica.proofs.ObserverEnds.{still}
 use Rattle.replica.proofs.Notices.{led_nowhere, led_through, led_to_end, since_from, since_through, no_notice}
 use Rattle.replica.proofs.WaitSets.{missing_later}
@@ -57,12 +57,12 @@ module _ {S : Type 0} (g : Ghosts S) where
   abbrev pub MissesSince : Store S g → Store S g → Account → Account → Type 0
   MissesSince first last was is = HasCleanDisk (database g last) → (broken : Bool) (content : Content) → HoldsAs g broken content first → WasMissing was.waits is.waits content.executed
 
-  pub since_opened : {store : Store S g} {was is : Account} {ids : Ids} → ((broken : Bool) (content : Content) → HoldsAs g broken content store → ids ≡ content.executed) → HasNotices was is (opened ids ∷ []) → KeepsSinceOpening g store store was is []
-  since_opened {store} {was} {is} {ids} same noticed = record {
+  pub since_opened : {store : Store S g} {was is : Account} {ids : Ids} → ((broken : Bool) (content : Content) → HoldsAs g broken content store → ids ≡ content.executed) → HasNotices was is (opened ids ∷ []) → Excludes was ids is → KeepsSinceOpening g store store was is []
+  since_opened {store} {was} {is} {ids} same noticed excludes = record {
     store = store_same;
     stays = noticed.stays;
     heeds = λ broken content holds on. refl;
-    notes = λ clean broken content holds. since_from g broken content store ids was is holds (same broken content holds) noticed;
+    notes = λ clean broken content holds. since_from g broken content store ids was is holds (same broken content holds) noticed excludes;
   }
 
   pub misses_then : {first middle last : Store S g} {t0 t1 t2 : Account} {ends more : List Ended} → KeepsSinceOpening g first middle t0 t1 ends → KeepsObserved g middle last t1 t2 more → MissesSince first middle t0 t1 → MissesSince first last t0 t2

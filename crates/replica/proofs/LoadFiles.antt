@@ -18,7 +18,7 @@ use Rattle.replica.specs.declared.loading.LoadEnd.TheVariants.{Changed, HadEnded
 use Rattle.replica.specs.declared.loading.Unloadable.{Unloadable}
 use Rattle.replica.specs.Marks.{ended_number, is_unfinished}
 use Rattle.replica.specs.Given.{empty_of, then_last, unless_last}
-use Rattle.replica.specs.Copies.{Copy, IsKept, MayNotLoad, end_of_copy, was_begun, with_marks}
+use Rattle.replica.specs.Copies.{Copy, IsNotGivenUp, MayNotLoad, end_of_copy, was_begun, with_marks}
 use Rattle.replica.specs.Loading.{JudgesCopy, HasLoaded, IsLedByLoad}
 use Rattle.replica.specs.LoadFile.{LoadsTo, IsNotedOfLoad}
 use Rattle.replica.proofs.CaptureFiles.{clean_before_closing, noted_of_files}

@@ -62,8 +62,8 @@ abbrev pub with_marks : Ids → Id → Ids
 with_marks ids first = set.insert (set.insert ids first) (first.0, begun_number)
 
 -- The copy was not given up, and has not ended; or has ended, since all of its rows were added.
-abbrev pub IsKept : Ids → Id → Bool → Type 0
-IsKept executed first ended = (set.contains executed (first.0, given_up_number) ≡ false) × (set.contains executed (first.0, ended_number) ≡ ended)
+abbrev pub IsNotGivenUp : Ids → Id → Bool → Type 0
+IsNotGivenUp executed first ended = (set.contains executed (first.0, given_up_number) ≡ false) × (set.contains executed (first.0, ended_number) ≡ ended)
 
 -- whether the copy was begun: its set and the first GTID of its source are executed, as they are by one commit
 abbrev pub was_begun : Ids → Ids → Id → Bool
@@ -79,7 +79,7 @@ pub record MayBegin (names : Names) (content : Content) (ids : Ids) (first : Id)
 
 -- The copy may be loaded: it was not given up and has not ended, no other one is unfinished, and it was begun, or may begin.
 pub record MayLoad (names : Names) (content : Content) (ids : Ids) (first : Id) (tables : Names) : Type 0 where
-  pub kept : IsKept content.executed first false
+  pub kept : IsNotGivenUp content.executed first false
   pub others : NoOtherUnfinished content.executed first.0
   pub begun : (was_begun content.executed ids first ≡ true) ⊎ MayBegin names content ids first tables
 
@@ -108,4 +108,4 @@ IsReason names content ids first tables why = (was_begun content.executed ids fi
 -- A copy may not be loaded for this reason: it was given up; or it was not, has not ended, and this is the reason.
 abbrev pub MayNotLoad : Names → Content → Ids → Id → Names → Unloadable → Type 0
 MayNotLoad names content ids first tables GivenUp = set.contains content.executed (first.0, given_up_number) ≡ true
-MayNotLoad names content ids first tables why = IsKept content.executed first false × IsReason names content ids first tables why
+MayNotLoad names content ids first tables why = IsNotGivenUp content.executed first false × IsReason names content ids first tables why

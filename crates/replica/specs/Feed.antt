@@ -75,6 +75,29 @@ abbrev pub read_lines : Reader → List Line → Reader
 read_lines r [] = r
 read_lines r (line ∷ lines) = read_lines (read_line r line) lines
 
+-- A line of a feed's file: a whole one, or one that is cut.
+pub data FileLine : Type 0 where
+  whole_line : Line → FileLine
+  cut_line : FileLine
+
+abbrev pub HaveNoOpen : List FileLine → Type 0
+HaveNoOpen [] = Unit {0}
+HaveNoOpen (cut_line ∷ lines) = HaveNoOpen lines
+HaveNoOpen (whole_line (open_line ids) ∷ lines) = ⊥
+HaveNoOpen (whole_line _ ∷ lines) = HaveNoOpen lines
+
+-- The lines that are read: of a line that is cut, and what follows it up to an `open`, none. `drops` is whether one came before.
+abbrev pub unbroken : (drops : Bool) → List FileLine → List Line
+unbroken drops [] = []
+unbroken drops (cut_line ∷ lines) = unbroken true lines
+unbroken drops (whole_line (open_line ids) ∷ lines) = open_line ids ∷ unbroken false lines
+unbroken true (whole_line _ ∷ lines) = unbroken true lines
+unbroken false (whole_line line ∷ lines) = line ∷ unbroken false lines
+
+-- what is read of a file
+abbrev pub read_file : Reader → List FileLine → Reader
+read_file r lines = read_lines r (unbroken false lines)
+
 -- one that has read nothing
 abbrev pub at_first : Reader
 at_first = record { used = set.empty; taken = []; kept = None }
@@ -98,25 +121,36 @@ MayBeMissing executed (change_line id change) = set.contains executed id ≡ fal
 MayBeMissing executed (commit_line id) = Unit {0}
 MayBeMissing executed (rollback_line id) = set.contains executed id ≡ false
 
+-- What a power failure may leave after the lines of a run that are whole: nothing, or a line that is cut (or has zeros) and after it
+-- anything but an `open`.
+abbrev pub IsHole : List FileLine → Type 0
+IsHole [] = Unit {0}
+IsHole (cut_line ∷ lines) = HaveNoOpen lines
+IsHole (whole_line line ∷ lines) = ⊥
+
 -- A run over a database of the first content has left one of the second, and these are its lines in the feed. What is said of what was
 -- reported is `notes` of the functions that report: a clause, or a field of the clause `noted`.
-pub record IsFed (names : Names) (old left : Content) (lines : List Line) : Type 0 where
+pub record IsFed (names : Names) (old left : Content) (lines : List FileLine) : Type 0 where
   pub notices : List Notice
   pub new : Content
   pub leads : LeadsBy names old notices new
   pub begins : BeginsWith old.executed notices
   pub fails : EndsAtFailure notices
   pub left_is : IsLeftOfNoted names notices new left
+  pub written : List Line
   pub missing : List Line
-  pub lines_are : lines_of notices ≡ lines ++ missing
+  pub broken : List FileLine
+  pub lines_are : lines_of notices ≡ written ++ missing
   pub may : AllByRecursion (MayBeMissing left.executed) missing
+  pub is_broken : IsHole broken
+  pub in_file : lines ≡ map whole_line written ++ broken
 
 -- Runs, each over the database that the one before has left.
-abbrev pub AreFed : Names → Content → List (List Line) → Content → Type 0
+abbrev pub AreFed : Names → Content → List (List FileLine) → Content → Type 0
 AreFed names old [] last = last ≡ old
 AreFed names old (lines ∷ runs) last = (left : Content) × IsFed names old left lines × AreFed names left runs last
 
 -- the lines of all runs
-abbrev pub all_lines : List (List Line) → List Line
+abbrev pub all_lines : List (List FileLine) → List FileLine
 all_lines [] = []
 all_lines (lines ∷ runs) = lines ++ all_lines runs

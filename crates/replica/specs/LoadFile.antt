@@ -15,7 +15,7 @@ use Rattle.replica.specs.NotedFile.{IsNotedOfFiles}
 use Rattle.replica.specs.File.{IsCleanlyClosed, KeepsContent}
 use Rattle.replica.specs.Change.{IsAdopted, MayStop, UnlessAdopted}
 use Rattle.replica.specs.ChangeFile.{ChangesFile}
-use Rattle.replica.specs.Copies.{Copy, MayLoad, MayNotLoad, IsKept, with_marks}
+use Rattle.replica.specs.Copies.{Copy, MayLoad, MayNotLoad, IsNotGivenUp, with_marks}
 
 -- The copy might be loaded, and the closed files hold what its set with its marks and then its transactions make of the content; or it
 -- had ended or might not be loaded, and they hold that content.
@@ -24,7 +24,7 @@ LoadsTo only names old copy applied (Changed end) closed =
     (IsCleanlyClosed closed → MayLoad names old copy.ids copy.first copy.tables)
     × ChangesFile copy.left names old (with_marks copy.ids copy.first) (record { applied = applied; end = end; closed = closed })
 LoadsTo only names old copy applied HadEnded closed =
-    (IsCleanlyClosed closed → IsKept old.executed copy.first true) × KeepsContent only names old closed
+    (IsCleanlyClosed closed → IsNotGivenUp old.executed copy.first true) × KeepsContent only names old closed
 LoadsTo only names old copy applied (Refused why) closed =
     (IsCleanlyClosed closed → MayNotLoad names old copy.ids copy.first copy.tables why) × KeepsContent only names old closed
 

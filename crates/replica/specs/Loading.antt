@@ -18,7 +18,7 @@ use Rattle.replica.specs.Over.{HasStayed}
 use Rattle.replica.specs.Noted.{Account, IsLedSinceOpening}
 use Rattle.replica.specs.Change.{IsAdopted}
 use Rattle.replica.specs.Changing.{HasChanged}
-use Rattle.replica.specs.Copies.{Copy, MayLoad, MayNotLoad, IsKept, with_marks}
+use Rattle.replica.specs.Copies.{Copy, MayLoad, MayNotLoad, IsNotGivenUp, with_marks}
 
 -- The row is of none of the tables, or is found to be of one.
 abbrev pub IsLookedAt : Names → Entry → Result (Unit {0}) Found → Type 0
@@ -37,7 +37,7 @@ module _ {S : Type 0} (g : Ghosts S) where
   -- The store holds the content that was led to, or the one from before; and this is what a crash leaves.
   abbrev pub HasLoaded : {E : Type 0} → Names → Store S g → Content → Copy → ℕ → LoadEnd E → Type 0
   HasLoaded names store old copy applied (Changed end) = MayLoad names old copy.ids copy.first copy.tables × HasChanged g names store old (with_marks copy.ids copy.first) copy.left applied end
-  HasLoaded names store old copy applied HadEnded = IsKept old.executed copy.first true × HasStayed g store old (λ left. left ≡ old)
+  HasLoaded names store old copy applied HadEnded = IsNotGivenUp old.executed copy.first true × HasStayed g store old (λ left. left ≡ old)
   HasLoaded names store old copy applied (Refused why) = MayNotLoad names old copy.ids copy.first copy.tables why × HasStayed g store old (λ left. left ≡ old)
 
   -- What was reported since the set was added leads from the content with it to the one that the store holds.

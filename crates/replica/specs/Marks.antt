@@ -25,6 +25,10 @@ abbrev pub is_unfinished : Ids → List ℕ → Bool
 is_unfinished executed source =
     is_of_copy source && (set.contains executed (source, begun_number) && not (set.contains executed (source, ended_number)))
 
+-- whether a GTID is one of these three
+abbrev pub marks_copy : List ℕ → ℕ → Bool
+marks_copy source number = is_of_copy source && (number == begun_number || (number == ended_number || number == given_up_number))
+
 -- Each copy that has begun has ended.
 abbrev pub NoneUnfinished : Ids → Type 0
 NoneUnfinished executed = (source : List ℕ) → is_unfinished executed source ≡ false

@@ -18,6 +18,7 @@ use Rattle.replica.specs.declared.end.Reason.TheVariants.{Refused, Database, Mem
 use Rattle.replica.specs.declared.end.Ended.{Ended}
 use Rattle.replica.specs.Conn.{AppliesAll, IsRefusedBy}
 use Rattle.replica.specs.Over.{LeavesOnly}
+use Rattle.replica.specs.Marks.{is_unfinished}
 use Rattle.replica.specs.Missing.{waits_for_none}
 
 -- What is reported to an observer: the executed set of a database that was opened; of a new transaction that it is to be applied, or that
@@ -190,6 +191,12 @@ pub record Account : Type 0 where
   pub has_stopped : Bool
   -- which transactions it still waits for, if it says so
   pub waits : Option Ids
+  -- whether it stops where a first copy has begun in the database and not ended
+  pub excludes : Bool
+
+-- An observer that stops for a first copy that has begun and not ended has stopped where there is one in a set that was reported.
+abbrev pub Excludes : Account → Ids → Account → Type 0
+Excludes was executed is = was.excludes ≡ true → (source : List ℕ) → is_unfinished executed source ≡ true → is.has_stopped ≡ true
 
 -- What an observer says of a call that reports these notices to it: they were added to its account, it waits for what is missing after
 -- them, and it does not take back that it has stopped.
@@ -237,12 +244,14 @@ BeginsWith executed (opened ids ∷ notices) = ids ≡ executed
 BeginsWith executed _ = ⊥
 
 -- The same since a database with the first content was opened. A connection of a list was read only if something was missing of what
--- the observer waited for. After a failure of the store no transaction was applied.
+-- the observer waited for. After a failure of the store no transaction was applied. Where the observer stops for a first copy that has
+-- begun and not ended, and there is one, no transaction was to be applied.
 pub record IsNotedSinceOpening (names : Names) (old new : Content) (was is : Account) (ends : List Ended) : Type 0 where
   pub noted_of : IsNotedOf names old new was is ends
   pub begins : BeginsWith old.executed noted_of.notices
   pub missed : ends ≢ [] → WasMissing was.waits is.waits old.executed
   pub fails : EndsAtFailure noted_of.notices
+  pub excluded : was.excludes ≡ true → (source : List ℕ) → is_unfinished old.executed source ≡ true → LetsNone noted_of.notices × (is.has_stopped ≡ true)
 
 -- Transactions led from a content to one in which some of these were not executed, and one more to this one.
 pub record EndsWithLast (names : Names) (old new : Content) (wanted : Ids) : Type 0 where

@@ -17,7 +17,7 @@ ghost use Rattle.scripted_source.specs.Script.{PartValue, ScriptValue};
 ghost use Rattle.scripted_source.specs.Source.{is_once};
 ghost use Rattle.store.specs.State.{Content, TableRow};
 ghost use Rattle.store.specs.Changes.{HasOutcome, adopted, done};
-ghost use Rattle.replica.specs.Marks.{begun_number};
+ghost use Rattle.replica.specs.Marks.{begun_number, is_unfinished};
 ghost use Rattle.replica.specs.Copies.{end_of_copy};
 ghost use Rattle.replica.specs.Copied.{AreAdded, AreCopied, AreNumbered, AreOutside, NoneExecuted, with_all};
 ghost use Rattle.store.specs.Store.{HoldsAs, database, names_of};
@@ -37,9 +37,9 @@ ghost use Rattle.replica.specs.Standing.{Position, Stands, from_start, sends_on,
 ghost use Rattle.replica.specs.Over.{StandsOver};
 ghost use Rattle.replica.specs.Follow.{HandsOut, IsInFull};
 ghost use Rattle.replica.specs.File.{FilesHold, AreClosedWith, IsTurnedAway};
-ghost use Rattle.replica.specs.Noted.{Account, IsNotedOf, Notice, opened, before, LeadsBy, applied_in, StillWaits, WereMissed};
+ghost use Rattle.replica.specs.Noted.{Account, IsNotedOf, IsNotedSinceOpening, IsLeftOfNoted, Notice, opened, before, LeadsBy, applied_in, StillWaits, WereMissed};
 ghost use Rattle.replica.specs.Missing.{waits_for_none};
-ghost use Rattle.replica.specs.Feed.{Line, open_line, Reader, at_first, read_line, read_lines, with_changes, AreFed, all_lines};
+ghost use Rattle.replica.specs.Feed.{FileLine, open_line, whole_line, Reader, at_first, read_line, read_file, with_changes, AreFed, all_lines};
 ghost use Rattle.replica.specs.Restart.{Starts, IsUncut, MayFindUnopened, AreStarts, HoldFirst, FilesNeverFall};
 ghost use Rattle.replica.specs.Resume.{Resumes, Leads, Reaches, AreRestarts, NeverFalls, part_changes, transaction, transactions, end_reason};
 
@@ -168,17 +168,18 @@ pub fn led()
 {}
 
 /// A reader of a change feed that keeps to its rules uses each transaction of the database that has changes exactly once, in order and
-/// with these changes, over any number of runs: each is over the database that the one before has left, and may be stopped anywhere.
+/// with these changes, over any number of runs: each is over the database that the one before has left, and may be stopped anywhere,
+/// by a power failure too that leaves a hole in what it had written last.
 pub fn consumed()
     // A reader of the lines of all runs, and of an open with the set that is executed after them.
-    ensures once { (names : Names) (first last : Content) (runs : List (List Line))
+    ensures once { (names : Names) (first last : Content) (runs : List (List FileLine))
         → AreFed names first runs last → (ds : List DeliveryValue)
         × AppliesAll names first ds (length ds) last
-        × (with_changes (read_lines at_first
-        (all_lines runs ++ open_line last.executed ∷ [])).taken ≡ with_changes ds) }
+        × (with_changes (read_file at_first
+        (all_lines runs ++ whole_line (open_line last.executed) ∷ [])).taken ≡ with_changes ds) }
     // After a part of the lines it has used the first of the transactions that it has used after more of them.
-    ensures grows { (r : Reader) (part more : List Line) → (ds : List DeliveryValue)
-        × ((read_lines r (part ++ more)).taken ≡ (read_lines r part).taken ++ ds) }
+    ensures grows { (r : Reader) (part more : List FileLine) → (ds : List DeliveryValue)
+        × ((read_file r (part ++ more)).taken ≡ (read_file r part).taken ++ ds) }
     // An open that comes again changes nothing, so that one may be left out where the line before it is the same.
     ensures again { (r : Reader) (ids : Ids)
         → read_line (read_line r (open_line ids)) (open_line ids) ≡ read_line r (open_line ids) }
@@ -201,6 +202,15 @@ pub fn waited()
         → LeadsBy names old (opened executed ∷ notices) mid
         → WereMissed (Some wanted) (opened executed ∷ (notices ++ before d ∷ more)) (Some left)
         → set.is_subset wanted mid.executed ≡ false }
+{}
+
+/// While a first copy has begun in a database and not ended, a call with an observer that stops for that changes nothing, and neither
+/// does a crash in it.
+pub fn excluded()
+    ensures { (names : Names) (old new : Content) (was is : Account) (ends : List Ended)
+        (source : List ℕ) → (since : IsNotedSinceOpening names old new was is ends)
+        → was.excludes ≡ true → is_unfinished old.executed source ≡ true → (left : Content)
+        → IsLeftOfNoted names since.noted_of.notices new left → (new ≡ old) × (left ≡ old) }
 {}
 
 /// No reading of a connection's bytes has more payloads than the reading up to their end.

@@ -81,7 +81,7 @@ pub use following::{PIECE, follow, follow_observed};
 pub use listed_file::{ListedFile, Lister, list_file};
 pub use loaded_file::{LoadedFile, load_file};
 pub use loading::{FirstCopy, LoadEnd, QualifiedName, Unloadable};
-pub use marks::{ended_mark, given_up_mark, unfinished_copy};
+pub use marks::{ended_mark, given_up_mark, is_mark, unfinished_copy};
 pub use observer::{Observer, Unobserved};
 pub use reader::{read_some, read_stream};
 pub use replaying::{Replayed, replay};

@@ -9,7 +9,7 @@ ghost use Rattle.binlog.specs.Filter.{admits};
 ghost use Rattle.store.specs.State.{Content};
 ghost use Rattle.store.specs.Store.{AreOf, Holds, database, names_of};
 ghost use Rattle.replica.specs.Marks.{is_of_copy};
-ghost use Rattle.replica.specs.Copies.{AreOfCopies, HasJust, IsAtSet, IsKept, AreAdmitted, was_begun, with_marks, loaded_by};
+ghost use Rattle.replica.specs.Copies.{AreOfCopies, HasJust, IsAtSet, IsNotGivenUp, AreAdmitted, was_begun, with_marks, loaded_by};
 ghost use Rattle.replica.specs.Loading.{IsLookedAt, JudgesCopy, HasLoaded, IsLedByLoad};
 ghost use Rattle.replica.specs.LoadFile.{MayStopLoad, UnlessLoaded};
 ghost use Rattle.replica.specs.Keeps.{KeepsStore};
@@ -203,7 +203,7 @@ fn may_load<S: Alter>(
 ) -> Result<(), Unloadable>
     ensures judges { HasCleanDisk (database S.Store store.new) → (content : Content)
         → Holds S.Store store.old content
-        → IsKept content.executed (id first) false
+        → IsNotGivenUp content.executed (id first) false
         → JudgesCopy S.Store (names_of S.Store store.old) content
         gtids.now (id first) tables.now store.new result }
     ensures crash { HasCleanDisk (database S.Store store.new) → (content : Content)

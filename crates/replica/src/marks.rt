@@ -4,7 +4,7 @@ ghost use Rattle.std.specs.Prelude.{◌≡◌, ◌/◌, ◌==◌, ◌&&◌, ◌|
 ghost use Rattle.std.specs.FinSet as set;
 ghost use Rattle.std.specs.List.{list_all};
 ghost use Rattle.std.specs.Str.{bytes_eq};
-ghost use Rattle.replica.specs.Marks.{is_of_copy, begun_number, ended_number, given_up_number, is_unfinished, NoneUnfinished, NoOtherUnfinished, is_left_open};
+ghost use Rattle.replica.specs.Marks.{is_of_copy, begun_number, ended_number, given_up_number, marks_copy, is_unfinished, NoneUnfinished, NoOtherUnfinished, is_left_open};
 
 use gtid::{Gtid, GtidSet, Spans};
 
@@ -55,6 +55,14 @@ pub fn given_up_mark(source: [u8; 16]) -> Gtid
         source,
         number: GIVEN_UP,
     }
+}
+
+/// Whether a GTID says of a copy that it has begun, has ended or is given up. Such a one is not skipped: rows would be missing.
+pub fn is_mark(gtid: Gtid) -> bool
+    ensures { result ≡ marks_copy gtid.source gtid.number }
+{
+    is_of_copy(&gtid.source)
+        && (gtid.number == BEGUN || gtid.number == ENDED || gtid.number == GIVEN_UP)
 }
 
 /// Whether a set says that a copy of this source has begun, and neither it nor the other one says that it has ended.

@@ -3,7 +3,7 @@
 ghost use Rattle.std.specs.Prelude.{◌≡◌, true, false, not, [], ◌∷◌, None, if◌then◌else◌};
 ghost use Rattle.binlog.specs.EventView.{event_value};
 ghost use Rattle.gather.specs.View.{delivery_value};
-ghost use Rattle.replica.specs.Noted.{Account, HasNotices, HasNoNotice, HasBeenSeen, opened, before, stopped, after, ended, event_read, refused_payload};
+ghost use Rattle.replica.specs.Noted.{Account, Excludes, HasNotices, HasNoNotice, HasBeenSeen, opened, before, stopped, after, ended, event_read, refused_payload};
 ghost use Rattle.replica.specs.Missing.{waits_for_none};
 
 use crate::end::{Ended, Reason};
@@ -13,13 +13,14 @@ use gtid::GtidSet;
 
 /// What connections are reported to while they are read, and what may stop them.
 pub trait Observer {
-    // What was reported to it, what it was given of payloads, whether it has asked to stop, and which transactions it still
-    // waits for.
+    // What was reported to it, what it was given of payloads, whether it has asked to stop, which transactions it still waits
+    // for, and whether it stops for a first copy that has not ended.
     ghost account: { Self → Account };
 
     /// Called once with the executed set of a database file, before anything is read.
     fn opened(&mut self, executed: &GtidSet)
         ensures noticed { HasNotices (account self.old) (account self.new) (opened executed.now ∷ []) }
+        ensures excludes { Excludes (account self.old) executed.now (account self.new) }
         ensures seen { (account self.new).seen ≡ (account self.old).seen };
 
     /// Called when the source has been reached.
@@ -84,7 +85,13 @@ pub trait Observer {
 pub struct Unobserved;
 
 impl Observer for Unobserved {
-    ghost account = { λ _. record { noted = None; seen = None; has_stopped = false; waits = None } };
+    ghost account = { λ _. record {
+      noted = None;
+      seen = None;
+      has_stopped = false;
+      waits = None;
+      excludes = false;
+    } };
 
     fn opened(&mut self, _executed: &GtidSet) {}
 

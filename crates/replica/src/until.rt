@@ -111,6 +111,7 @@ impl<W: Observer> Observer for Until<W> {
       seen = (W.account u.inner).seen;
       has_stopped = is_over u.missing || (W.account u.inner).has_stopped;
       waits = u.missing;
+      excludes = (W.account u.inner).excludes;
     } };
 
     fn opened(&mut self, executed: &GtidSet) {

@@ -2,12 +2,13 @@
 
 ghost use Rattle.std.specs.Prelude.{◌≡◌, true, is_some, None};
 
+use crate::watch::is_stopped_by;
 use binlog::Event;
 use files::FileFault;
 use formats::text_of;
 use gather::Delivery;
 use gtid::{Gtid, GtidSet};
-use replica::{Ended, Observer, Reason, unfinished_copy};
+use replica::{Ended, Observer, Reason};
 use std::alloc::Global;
 use typed_rows::{SkipError, SkipFeed, Skipping};
 
@@ -50,6 +51,19 @@ impl<'a> SkipWatch<'a> {
         stop
     }
 
+    /// Takes the executed set at the start, where there is a feed.
+    fn note_executed(&mut self, executed: &GtidSet)
+        ensures { is_some self.old.stop ≡ true → is_some self.new.stop ≡ true }
+    {
+        if self.feed.is_none() {
+            return;
+        }
+        match text_of(self.alloc, executed) {
+            Ok(text) => self.executed = Some(text),
+            Err(_) => self.stop = Some(SkipStop::Feed(SkipError::File(FileFault::Memory))),
+        }
+    }
+
     /// Says that a transaction is to be skipped.
     fn begin(&mut self, gtid: Gtid)
         ensures { is_some self.old.stop ≡ true → is_some self.new.stop ≡ true }
@@ -70,19 +84,14 @@ impl Observer for SkipWatch<'_> {
       seen = None;
       has_stopped = is_some w.stop;
       waits = None;
+      excludes = true;
     } };
 
     fn opened(&mut self, executed: &GtidSet) {
-        if unfinished_copy(executed).is_some() {
+        if is_stopped_by(executed, false) {
             self.stop = Some(SkipStop::Unfinished);
-            return;
-        }
-        if self.feed.is_none() {
-            return;
-        }
-        match text_of(self.alloc, executed) {
-            Ok(text) => self.executed = Some(text),
-            Err(_) => self.stop = Some(SkipStop::Feed(SkipError::File(FileFault::Memory))),
+        } else {
+            self.note_executed(executed);
         }
     }
 

@@ -1,6 +1,7 @@
 //! What a command reports while it reads: the line of each end, progress, and the change feed.
 
-ghost use Rattle.std.specs.Prelude.{◌≡◌, true, is_some, None};
+ghost use Rattle.std.specs.Prelude.{◌≡◌, true, false, not, is_some, None};
+ghost use Rattle.replica.specs.Marks.{NoneUnfinished};
 
 use crate::map_names::names_in_map;
 use crate::pulse::Pulse;
@@ -36,6 +37,19 @@ impl Stop {
             RowError::Output(cause) => Stop::Feed(cause),
             RowError::Misfit(misfit) => Stop::Misfit(misfit),
         }
+    }
+}
+
+/// Whether a command is stopped by a set that says of a first copy that it has begun, and not that it has ended; loading a copy is not.
+pub(crate) fn is_stopped_by(executed: &GtidSet, is_copy: bool) -> bool
+    ensures { result ≡ false → is_copy ≡ false → NoneUnfinished executed.now }
+{
+    if is_copy {
+        return false;
+    }
+    match unfinished_copy(executed) {
+        Some(_) => true,
+        None => false,
     }
 }
 
@@ -122,8 +136,16 @@ impl<'a, O: Write, E: Write> Watch<'a, O, E> {
         }
     }
 
-    /// Writes an entry of the change feed, unless reading is stopped or the store has failed.
+    /// Writes an entry of the change feed, after the executed set at the start, unless the feed has that.
     fn put(&mut self, entry: FeedEntry<'_>)
+        ensures { is_some self.old.stop ≡ true → is_some self.new.stop ≡ true }
+    {
+        self.put_executed();
+        self.write(entry);
+    }
+
+    /// Writes an entry of the change feed, unless reading is stopped or the store has failed.
+    fn write(&mut self, entry: FeedEntry<'_>)
         ensures { is_some self.old.stop ≡ true → is_some self.new.stop ≡ true }
     {
         if self.stop.is_some() {
@@ -145,7 +167,28 @@ impl<'a, O: Write, E: Write> Watch<'a, O, E> {
         ensures { is_some self.old.stop ≡ true → is_some self.new.stop ≡ true }
     {
         if let Some(text) = self.executed.take() {
-            self.put(FeedEntry::Opened(text.as_str()));
+            self.write(FeedEntry::Opened(text.as_str()));
+        }
+    }
+
+    /// Takes the executed set at the start, which the feed has from here on where no source has to be reached.
+    fn begin(&mut self, executed: &GtidSet)
+        ensures { is_some self.old.stop ≡ true → is_some self.new.stop ≡ true }
+    {
+        self.details.note_executed(executed);
+        if !executed.is_subset(&GtidSet::new(self.source.rt.alloc())) {
+            self.chosen = None;
+        }
+        if self.feed.is_none() {
+            return;
+        }
+        match text_of(self.source.rt.alloc(), executed) {
+            Ok(text) => self.executed = Some(text),
+            Err(_) => self.stop = Some(Stop::Feed(io::ErrorKind::OutOfMemory.into())),
+        }
+        // A source that cannot be reached adds nothing to the feed, however often it is tried.
+        if self.source.port == 0 {
+            self.put_executed();
         }
     }
 
@@ -270,28 +313,15 @@ impl<'a, O: Write, E: Write> Observer for Watch<'a, O, E> {
       seen = None;
       has_stopped = is_some w.stop;
       waits = None;
+      excludes = not w.source.is_copy;
     } };
 
     fn opened(&mut self, executed: &GtidSet) {
         self.pulse.opened(executed);
-        if !self.source.is_copy && unfinished_copy(executed).is_some() {
+        if is_stopped_by(executed, self.source.is_copy) {
             self.stop = Some(Stop::Unfinished);
-            return;
-        }
-        self.details.note_executed(executed);
-        if !executed.is_subset(&GtidSet::new(self.source.rt.alloc())) {
-            self.chosen = None;
-        }
-        if self.feed.is_none() {
-            return;
-        }
-        match text_of(self.source.rt.alloc(), executed) {
-            Ok(text) => self.executed = Some(text),
-            Err(_) => self.stop = Some(Stop::Feed(io::ErrorKind::OutOfMemory.into())),
-        }
-        // A source that cannot be reached adds nothing to the feed, however often it is tried.
-        if self.source.port == 0 {
-            self.put_executed();
+        } else {
+            self.begin(executed);
         }
     }
 

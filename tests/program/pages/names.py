@@ -174,10 +174,6 @@ def tables(page, crate, text):
             if abs(lines - int(cells[1])) > max(10, lines // 5): yield f'{path} has {lines} lines'
 
 
-# Words that still have two meanings: one of each is to get another name with the next change of its crate.
-TWICE = {'IsKept'}
-
-
 def twice():
     """Words that two files of `specs/` define."""
     files = {}
@@ -187,7 +183,7 @@ def twice():
             is_field = re.match(r' +pub \w+ :', line)
             if found and not is_field: files.setdefault(found.group(1), set()).add(os.path.relpath(path, root))
     for word, places in sorted(files.items()):
-        if len(places) > 1 and word not in TWICE: yield f'{word} is defined in ' + ' and in '.join(sorted(places))
+        if len(places) > 1: yield f'{word} is defined in ' + ' and in '.join(sorted(places))
 
 
 bad += twice()

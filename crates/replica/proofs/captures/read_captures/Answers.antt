@@ -23,7 +23,7 @@ loop-capture-init g c = record {
   room = search rules;
   keeps =
       subst (λ (l : List Ended). KeepsSinceOpening g.S.Store c.args.store.now c.args.store.now (g.W.Observer.account c.args.observer.now) (g.W.Observer.account c.opened.new.self) l) (sym c.requires.none)
-      (since_opened g.S.Store c.executed.ensures.value c.opened.ensures.noticed);
+      (since_opened g.S.Store c.executed.ensures.value c.opened.ensures.noticed c.opened.ensures.excludes);
   missed = λ clean was old holds.
       missing_first (g.W.Observer.account c.args.observer.now).waits (g.W.Observer.account c.opened.new.self).waits c.executed.result.now old.executed (c.executed.ensures.value was old holds) c.opened.ensures.noticed.waits (sym c.is_done.ensures.done ∙ c.if-is_done.false);
   taken = λ h was old holds.
@@ -104,7 +104,7 @@ returns-then-is_done-clause-reads g c clean was old holds =
 pub returns-then-is_done-clause-keeps : goal.returns-then-is_done-clause-keeps
 returns-then-is_done-clause-keeps g c =
     subst (λ (l : List Ended). KeepsSinceOpening g.S.Store c.args.store.now c.args.store.now (g.W.Observer.account c.args.observer.now) (g.W.Observer.account c.opened.new.self) l) (sym c.requires.none)
-    (since_opened g.S.Store c.executed.ensures.value c.opened.ensures.noticed)
+    (since_opened g.S.Store c.executed.ensures.value c.opened.ensures.noticed c.opened.ensures.excludes)
 
 pub returns-in-Err-clause-keeps : goal.returns-in-Err-clause-keeps
 returns-in-Err-clause-keeps g c =

@@ -15,7 +15,7 @@ returns-then-contains-clause-clears g c clean old holds =
 pub returns-then-contains-clause-notes : goal.returns-then-contains-clause-notes
 returns-then-contains-clause-notes g c clean old holds =
     led_opened g.S.Store c.args.store.now.following old c.args.store.now (g.W.Observer.account c.args.observer.now) (g.W.Observer.account c.opened.new.self) (stays_whole g.S.Store (λ h db is_open may. g.met.S.Store.settled h.store db is_open may) c.args.store.now old (λ left. left ≡ old) refl holds)
-    (opened_noted c.args.store.now.following old c.executed.result.now (g.W.Observer.account c.args.observer.now) (g.W.Observer.account c.opened.new.self) (c.executed.ensures.value false old holds) c.opened.ensures.noticed)
+    (opened_noted c.args.store.now.following old c.executed.result.now (g.W.Observer.account c.args.observer.now) (g.W.Observer.account c.opened.new.self) (c.executed.ensures.value false old holds) c.opened.ensures.noticed c.opened.ensures.excludes)
 
 pub returns-then-not-follows-clause-clears : goal.returns-then-not-follows-clause-clears
 returns-then-not-follows-clause-clears g c clean old holds =
@@ -26,7 +26,7 @@ returns-then-not-follows-clause-clears g c clean old holds =
 pub returns-then-not-follows-clause-notes : goal.returns-then-not-follows-clause-notes
 returns-then-not-follows-clause-notes g c clean old holds =
     led_opened g.S.Store c.args.store.now.following old c.args.store.now (g.W.Observer.account c.args.observer.now) (g.W.Observer.account c.opened.new.self) (stays_whole g.S.Store (λ h db is_open may. g.met.S.Store.settled h.store db is_open may) c.args.store.now old (λ left. left ≡ old) refl holds)
-    (opened_noted c.args.store.now.following old c.executed.result.now (g.W.Observer.account c.args.observer.now) (g.W.Observer.account c.opened.new.self) (c.executed.ensures.value false old holds) c.opened.ensures.noticed)
+    (opened_noted c.args.store.now.following old c.executed.result.now (g.W.Observer.account c.args.observer.now) (g.W.Observer.account c.opened.new.self) (c.executed.ensures.value false old holds) c.opened.ensures.noticed c.opened.ensures.excludes)
 
 pub returns-in-Err-list_deletes-clause-clears : goal.returns-in-Err-list_deletes-clause-clears
 returns-in-Err-list_deletes-clause-clears g c clean old holds =
@@ -40,7 +40,7 @@ returns-in-Err-list_deletes-clause-clears g c clean old holds =
 pub returns-in-Err-list_deletes-clause-notes : goal.returns-in-Err-list_deletes-clause-notes
 returns-in-Err-list_deletes-clause-notes g c clean old holds =
     led_opened g.S.Store c.args.store.now.following old c.list_deletes.new.store (g.W.Observer.account c.args.observer.now) (g.W.Observer.account c.opened.new.self) (c.in-Err-list_deletes.ensures.lists clean old holds).1
-    (opened_noted c.args.store.now.following old c.executed.result.now (g.W.Observer.account c.args.observer.now) (g.W.Observer.account c.opened.new.self) (c.executed.ensures.value false old holds) c.opened.ensures.noticed)
+    (opened_noted c.args.store.now.following old c.executed.result.now (g.W.Observer.account c.args.observer.now) (g.W.Observer.account c.opened.new.self) (c.executed.ensures.value false old holds) c.opened.ensures.noticed c.opened.ensures.excludes)
 
 pub returns-clause-clears : goal.returns-clause-clears
 returns-clause-clears g c clean old holds =
@@ -60,7 +60,7 @@ pub returns-clause-notes : goal.returns-clause-notes
 returns-clause-notes g c clean old holds =
     let whole : Holds g.S.Store c.list_deletes.new.store old = (c.in-Ok.ensures.lists (c.apply.ensures.keeps.store.clean clean) old holds).1 in
     led_applied g.S.Store (λ h db is_open may. g.met.S.Store.settled h.store db is_open may) c.args.store.now c.list_deletes.new.store c.apply.new.store old (g.W.Observer.account c.args.observer.now) (g.W.Observer.account c.opened.new.self) (g.W.Observer.account c.apply.new.observer) c.list_deletes.ensures.keeps.following whole
-    (opened_noted c.args.store.now.following old c.executed.result.now (g.W.Observer.account c.args.observer.now) (g.W.Observer.account c.opened.new.self) (c.executed.ensures.value false old holds) c.opened.ensures.noticed)
+    (opened_noted c.args.store.now.following old c.executed.result.now (g.W.Observer.account c.args.observer.now) (g.W.Observer.account c.opened.new.self) (c.executed.ensures.value false old holds) c.opened.ensures.noticed c.opened.ensures.excludes)
     refl (λ is now held. c.apply.ensures.keeps.notes clean is now held)
 
 pub returns-then-contains-clause-heeds : goal.returns-then-contains-clause-heeds
@@ -93,7 +93,7 @@ returns-in-Ok-false-clause-clears g c clean old holds =
 pub returns-in-Ok-false-clause-notes : goal.returns-in-Ok-false-clause-notes
 returns-in-Ok-false-clause-notes g c clean old holds =
     led_opened g.S.Store c.args.store.now.following old c.args.store.now (g.W.Observer.account c.args.observer.now) (g.W.Observer.account c.opened.new.self) (stays_whole g.S.Store (λ h db is_open may. g.met.S.Store.settled h.store db is_open may) c.args.store.now old (λ left. left ≡ old) refl holds)
-    (opened_noted c.args.store.now.following old c.executed.result.now (g.W.Observer.account c.args.observer.now) (g.W.Observer.account c.opened.new.self) (c.executed.ensures.value false old holds) c.opened.ensures.noticed)
+    (opened_noted c.args.store.now.following old c.executed.result.now (g.W.Observer.account c.args.observer.now) (g.W.Observer.account c.opened.new.self) (c.executed.ensures.value false old holds) c.opened.ensures.noticed c.opened.ensures.excludes)
 
 pub returns-in-Err-clause-clears : goal.returns-in-Err-clause-clears
 returns-in-Err-clause-clears g c clean old holds =
@@ -107,7 +107,7 @@ returns-in-Err-clause-clears g c clean old holds =
 pub returns-in-Err-clause-notes : goal.returns-in-Err-clause-notes
 returns-in-Err-clause-notes g c clean old holds =
     led_opened g.S.Store c.args.store.now.following old c.args.store.now (g.W.Observer.account c.args.observer.now) (g.W.Observer.account c.opened.new.self) (stays_whole g.S.Store (λ h db is_open may. g.met.S.Store.settled h.store db is_open may) c.args.store.now old (λ left. left ≡ old) refl holds)
-    (opened_noted c.args.store.now.following old c.executed.result.now (g.W.Observer.account c.args.observer.now) (g.W.Observer.account c.opened.new.self) (c.executed.ensures.value false old holds) c.opened.ensures.noticed)
+    (opened_noted c.args.store.now.following old c.executed.result.now (g.W.Observer.account c.args.observer.now) (g.W.Observer.account c.opened.new.self) (c.executed.ensures.value false old holds) c.opened.ensures.noticed c.opened.ensures.excludes)
 
 pub returns-in-Ok-false-clause-heeds : goal.returns-in-Ok-false-clause-heeds
 returns-in-Ok-false-clause-heeds g c clean old holds on = stays_whole g.S.Store (λ h db is_open may. g.met.S.Store.settled h.store db is_open may) c.args.store.now old (λ left. left ≡ old) refl holds

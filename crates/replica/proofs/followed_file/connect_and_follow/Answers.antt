@@ -18,8 +18,8 @@ returns-in-Err-clause-connects g c clean held holds =
 
 pub returns-in-Ok-clause-keeps : goal.returns-in-Ok-clause-keeps
 returns-in-Ok-clause-keeps g c =
-    since_then g.S.Store (λ some. absurd (some refl)) refl (λ some. absurd (some refl)) (since_opened g.S.Store c.executed-executed.ensures.value c.opened.ensures.noticed)
+    since_then g.S.Store (λ some. absurd (some refl)) refl (λ some. absurd (some refl)) (since_opened g.S.Store c.executed-executed.ensures.value c.opened.ensures.noticed c.opened.ensures.excludes)
     (keeps_then g.S.Store (keeps_noticed g.S.Store c.connected.ensures.noticed) c.follow_observed-end.ensures.keeps)
 
 pub returns-in-Err-clause-keeps : goal.returns-in-Err-clause-keeps
-returns-in-Err-clause-keeps g c = since_opened g.S.Store c.executed-executed.ensures.value c.opened.ensures.noticed
+returns-in-Err-clause-keeps g c = since_opened g.S.Store c.executed-executed.ensures.value c.opened.ensures.noticed c.opened.ensures.excludes

@@ -1,4 +1,4 @@
-use Rattle.replica.proofs.Names.{[], ◌∷◌, Option, subst, Ids, is_over}
+use Rattle.replica.proofs.Names.{[], ◌∷◌, Option, subst, or_right, Ids, is_over}
 use Rattle.replica.specs.Missing.{IsLeftOf}
 use Rattle.replica.proofs.WaitSets.{apart_noted, left_opened, either_stays, left_none}
 use Rattle.replica.specs.Noted.{opened}
@@ -17,5 +17,7 @@ returns g c =
             either_stays (is_over was) (g.W.Observer.account c.args.self.now.inner).has_stopped (is_over c.without.result) (g.W.Observer.account c.opened.new.self).has_stopped
             (left_none was taken c.without.result left) c.opened.ensures.noticed.stays;
       };
+      excludes = λ asks source begun.
+          or_right (is_over c.without.result) (g.W.Observer.account c.opened.new.self).has_stopped (c.opened.ensures.excludes asks source begun);
       seen = c.opened.ensures.seen;
     }
