@@ -1,13 +1,45 @@
 -- The transactions that a copy still gives.
-use Rattle.first_copy.proofs.Names.{◌≡◌, inl, inr, ℕ, ◌+◌, ◌^◌, ◌≤◌, Bool, true, false, List, [], ◌∷◌, ◌++◌, length, Option, Some, None, arith, refl, sym, ap, subst, ◌∙◌, IfSome, Sha1, DescribedTable, DeliveryValue, IsEndLine, IsGiven, IsFinished}
-use Rattle.std.proofs.Common.{◌⊎◌, ◌||◌, Result, Ok, Err}
+use Rattle.first_copy.proofs.Names.{◌≡◌, ℕ, ◌+◌, Bool, true, false, List, [], ◌∷◌, ◌++◌, length, Option, Some, None, arith, refl, sym, ap, subst, ◌∙◌, IfSome, Sha1, DescribedTable, DeliveryValue, IsEndLine, IsGiven, IsFinished}
+use Rattle.std.proofs.Common.{Result, Ok, Err}
 use Rattle.std.specs.Prelude.{MatchBool, IfNone}
 use Rattle.std.proofs.lemmas.Bool.{true≢false, false≢true}
 use Rattle.std.proofs.lemmas.List.{length-append}
 use Rattle.gather.specs.View.{delivery_value}
 use Rattle.gather.specs.declared.transaction.Delivery.{Delivery}
-use Rattle.replica.specs.Given.{BeginWith, GivesFirst, GivesOne}
-use Rattle.first_copy.specs.Supplied.{all_changes, HaveLines, supply_of}
+use Rattle.gather.specs.Transaction.{ChangeValue}
+use Rattle.binlog.specs.Filter.{Names}
+use Rattle.replica.specs.Given.{Supply, BeginWith, GivesFirst, GivesOne}
+use Rattle.first_copy.specs.Supplied.{all_changes, AreOfTables, within, HaveLines, supply_of}
+
+-- ---- The tables of what is given.
+
+of_both : (names : Names) (xs ys : List ChangeValue) → AreOfTables names xs → AreOfTables names ys → AreOfTables names (xs ++ ys)
+of_both names [] ys first rest = rest
+of_both names (x ∷ xs) ys first rest = (first.0, of_both names xs ys first.1 rest)
+
+begins_within : (names : Names) (left : Supply) (ds : List DeliveryValue) → BeginWith (within names left) ds → BeginWith left ds × AreOfTables names (all_changes ds)
+begins_within names left [] begin = (tt, tt)
+begins_within names left (d ∷ ds) begin = begin
+
+to_within : (names : Names) (left : Supply) (ds : List DeliveryValue) → BeginWith left ds → AreOfTables names (all_changes ds) → BeginWith (within names left) ds
+to_within names left [] begin are = tt
+to_within names left (d ∷ ds) begin are = (begin, are)
+
+pub nothing_within : (names : Names) (before after : Supply) → GivesFirst before [] after → GivesFirst (within names before) [] (within names after)
+nothing_within names before after gives = record {
+  begins = λ more begin. let b = begins_within names after more begin in to_within names before more (gives.begins more b.0) b.1;
+  are_all = λ more all. (gives.are_all more all.0, all.1);
+}
+
+-- one transaction of these tables, or none
+pub one_within : (names : Names) (before after : Supply) (found : Option Delivery) → GivesOne before after found → IfSome found (λ d. AreOfTables names (delivery_value d).changes) → GivesOne (within names before) (within names after) found
+one_within names before after (Some d) gives are = record {
+  begins = λ more begin. let b = begins_within names after more begin in (gives.begins more b.0, of_both names (delivery_value d).changes (all_changes more) are b.1);
+  are_all = λ more all. (gives.are_all more all.0, of_both names (delivery_value d).changes (all_changes more) are all.1);
+}
+one_within names before after None gives are = (nothing_within names before after gives.0, (gives.1, tt))
+
+-- ---- What is given.
 
 pub not_err : {T E : Type 0} (t : T) (e : E) → Path (Result T E) (Ok t) (Err e) → ⊥
 not_err t e is = cc

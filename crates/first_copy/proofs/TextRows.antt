@@ -1,23 +1,23 @@
 -- The rows that the transactions of a text add.
-use Rattle.first_copy.proofs.Names.{◌≡◌, ℕ, suc, ◌+◌, ◌≤◌, ◌<◌, ◌^◌, arith, Bool, true, false, List, [], ◌∷◌, ◌++◌, length, refl, sym, ap, subst, ◌∙◌, append_assoc, append-nil, length-append, string_bytes, Ids, CellValue, DescribedTable, ChangeValue, DeliveryValue, IsEndLine}
+use Rattle.first_copy.proofs.Names.{◌≡◌, ℕ, suc, ◌+◌, ◌≤◌, ◌<◌, ◌^◌, arith, true, List, [], ◌∷◌, ◌++◌, length, refl, sym, ap, subst, ◌∙◌, append_assoc, append-nil, length-append, string_bytes, Ids, DescribedTable, ChangeValue, DeliveryValue, IsEndLine}
 use Rattle.std.proofs.Common.{ap₂, zero-add}
 use Rattle.std.specs.List.{AllByRecursion}
 use Rattle.binlog.specs.Filter.{Names}
-use Rattle.gather.specs.Transaction.{insert}
+use Rattle.gather.specs.Transaction.{changed_schema, changed_table}
 use Rattle.store.specs.State.{Content, TableRow, row_of}
 use Rattle.store.specs.Changes.{adopted, is_admitted}
 use Rattle.replica.specs.Conn.{AppliesAll}
 use Rattle.replica.specs.Marks.{begun_number}
-use Rattle.replica.specs.Copies.{end_of_copy}
+use Rattle.replica.specs.Copies.{AreAdmitted, end_of_copy}
 use Rattle.replica.specs.Copied.{AreAdded, AreAdditions, AreCopied, AreNumbered, NoneExecuted, with_all}
 use Rattle.replica.proofs.CopyLoads.{loaded_rows}
 use Rattle.first_copy.specs.RowLines.{IsRowLine}
 use Rattle.first_copy.specs.CopyLines.{AreRowLines, IsChunk}
-use Rattle.first_copy.specs.LoadedText.{IsLineOf, HasLinesOf}
-use Rattle.first_copy.specs.Supplied.{all_changes, HaveLines}
+use Rattle.first_copy.specs.LoadedText.{HasLinesOf}
+use Rattle.first_copy.specs.Supplied.{all_changes, AreOfTables, HaveLines}
 
 -- The filter admits the tables of the changes.
-abbrev Admitted : Names → List ChangeValue → Type 0
+abbrev pub Admitted : Names → List ChangeValue → Type 0
 Admitted names changes = AllByRecursion (λ change. is_admitted names change ≡ true) changes
 
 admitted_first : (names : Names) (xs ys : List ChangeValue) → Admitted names (xs ++ ys) → Admitted names xs
@@ -27,6 +27,11 @@ admitted_first names (x ∷ xs) ys all = (all.0, admitted_first names xs ys all.
 admitted_then : (names : Names) (xs ys : List ChangeValue) → Admitted names (xs ++ ys) → Admitted names ys
 admitted_then names [] ys all = all
 admitted_then names (x ∷ xs) ys all = admitted_then names xs ys all.1
+
+-- A filter that admits the tables of a copy admits its changes.
+pub admits_all : (names copied : Names) (changes : List ChangeValue) → AreAdmitted names copied → AreOfTables copied changes → Admitted names changes
+admits_all names copied [] admitted are = tt
+admits_all names copied (c ∷ changes) admitted are = (admitted (changed_schema c) (changed_table c) are.0, admits_all names copied changes admitted are.1)
 
 -- what some lines add, before whatever comes next
 lines_add : (names : Names) (tables : List DescribedTable) (changes : List ChangeValue) (lines : List ℕ) → AreRowLines tables changes lines → Admitted names changes
@@ -86,7 +91,7 @@ loaded names tables source text old new ids ds n have admitted none few applies 
     let made = loaded_rows names source 2 (adopted old ids) ds all.0 n new none few all.2 all.1 applies in
     (all.0, subst (λ (k : ℕ). HasLinesOf tables all.0 (IsEndLine k) text) same all.4, made.0, made.1, made.2)
 
-changes_of : (ds : List DeliveryValue) (source : List ℕ) → all_changes (ds ++ end_of_copy source ∷ []) ≡ all_changes ds
+pub changes_of : (ds : List DeliveryValue) (source : List ℕ) → all_changes (ds ++ end_of_copy source ∷ []) ≡ all_changes ds
 changes_of [] source = refl
 changes_of (d ∷ ds) source = ap (λ (cs : List ChangeValue). d.changes ++ cs) (changes_of ds source)
 

@@ -111,6 +111,16 @@ fn names_of(alloc: Global, tables: &[TableCount]) -> Result<Vec<(Vec<u8>, Vec<u8
     Ok(names)
 }
 
+/// The same names of tables.
+fn copy_of(alloc: Global, names: &Follow) -> Result<Follow, CopyFault>
+    ensures { IfOk result (λ copy. copy ≡ names.now) }
+{
+    match Follow::new(alloc, names.names()) {
+        Ok(copy) => Ok(copy),
+        Err(_) => Err(CopyFault::Memory),
+    }
+}
+
 /// The first GTID of the source of a copy with this executed set and this digest of the lines after its head.
 fn first_gtid(alloc: Global, executed: &GtidSet, digest: &[u8; 20]) -> Result<Gtid, CopyFault>
     ensures first { IfOk result (λ gtid. gtid.number ≡ 1) }
@@ -208,15 +218,18 @@ impl Summary {
         ensures begin { IfOk result (λ made. (made.changed ≡ false) × (made.loader.failed ≡ false)
             × (made.loader.ended ≡ false) × (made.loader.given ≡ 1) × (made.loader.rows ≡ 0)
             × (made.loader.source ≡ self.now.first.source)) }
+        // Their rows are of the tables of the copy.
+        ensures names { IfOk result (λ made. made.names ≡ self.now.names) }
         ensures described { IfOk result (λ made. made.loader.taker.description ≡ description) }
         ensures text { IfOk result (λ made. FollowsHead (R.Read.remaining reader)
             (prepend_known made.loader.line.items (R.Read.remaining made.loader.reader))) }
     {
         let _ = read_head(alloc, &mut reader)?;
         let loader = Loader::new(alloc, description, self.first.source, reader)?;
+        let names = copy_of(alloc, &self.names)?;
         let mut digests = Vec::new(alloc);
         match digests.extend_from_slice(&self.digests) {
-            Ok(()) => Ok(CopiedRows::new(loader, digests)),
+            Ok(()) => Ok(CopiedRows::new(loader, names, digests)),
             Err(_) => Err(CopyFault::Memory),
         }
     }
