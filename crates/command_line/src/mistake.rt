@@ -50,13 +50,9 @@ fn texts_of<S: AsStr>(alloc: Global, words: &[S]) -> Result<Vec<String>, AllocEr
 }
 
 /// What a command is called elsewhere, and what to type.
-static ELSEWHERE: [(&str, &str); 20] = [
+static ELSEWHERE: [(&str, &str); 19] = [
     ("version", "mrep --version"),
-    (
-        "status",
-        "mrep tables --db F, mrep gtids --db F, or follow --status FILE",
-    ),
-    ("info", "mrep tables --db F and mrep gtids --db F"),
+    ("status", "mrep info --db F, or follow --status FILE"),
     ("start", "mrep follow"),
     ("run", "mrep follow"),
     ("sync", "mrep follow"),

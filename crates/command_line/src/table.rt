@@ -17,6 +17,9 @@ const LONG_VERSION: &str =
 /// The shells that `mrep completions` knows.
 const SHELLS: [&str; 3] = ["bash", "zsh", "fish"];
 
+/// The words of `--format` of `mrep info`.
+const TEXT_OR_JSON: [&str; 2] = ["text", "json"];
+
 /// How an argument is given.
 #[derive(Clone, Copy)]
 pub enum Kind {
@@ -271,7 +274,7 @@ static READING: [CommandRow; 5] = [
 ];
 
 /// The commands over a database, and what helps with the command line.
-static OTHERS: [CommandRow; 11] = [
+static OTHERS: [CommandRow; 12] = [
     CommandRow(
         "show",
         "Print the rows of a database: table, count, cells",
@@ -332,6 +335,19 @@ static OTHERS: [CommandRow; 11] = [
         "Example:\n  mrep tables --db F.db",
     ),
     CommandRow(
+        "info",
+        "Print what is known of a database: its executed set, its tables with their rows, and the sizes of its files",
+        &[
+            DB,
+            Argument(
+                "format",
+                Kind::OneOf("FORMAT", &TEXT_OR_JSON),
+                "How it is printed",
+            ),
+        ],
+        "Example:\n  mrep info --db F.db --format json",
+    ),
+    CommandRow(
         "gtids",
         "Print the executed GTID set of a database",
         &[DB],
@@ -372,6 +388,11 @@ static OTHERS: [CommandRow; 11] = [
                 "schema",
                 Kind::Text("SCHEMA"),
                 "Make the tables of this schema alone, under their names without it",
+            ),
+            Argument(
+                "place",
+                Kind::Flag,
+                "Make a table mrep_place too, with the executed set",
             ),
             Argument("TO", Kind::Word, "The file to make"),
             Argument("force", Kind::Flag, "Replace the file if it exists"),

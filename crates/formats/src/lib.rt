@@ -2,7 +2,8 @@
 //!
 //! [`write_row`], [`Records`] and [`write_object`] print a row of a table in one of the [`Format`]s, and [`write_event`] an
 //! event of a stream. [`write_named`] is a message, in which [`Shown`] is a name or another argument; [`Details`] says where
-//! in a transaction a connection has ended, [`Progress`] how far a command has come, and [`Chosen`] which tables had no row.
+//! in a transaction a connection has ended, [`Progress`] how far a command has come, and [`Chosen`] which tables had no row. [`Facts`] is what is known
+//! of a database as a whole.
 //!
 //! Of what is printed the text of a set ([`text_of`]), that of the type of a column ([`TypeText`]) and the line of a row
 //! ([`write_row`]) have a contract.
@@ -14,6 +15,7 @@ mod comparison;
 mod csv_lines;
 mod details;
 mod event_line;
+mod facts;
 mod fault_name;
 mod hex;
 mod json_lines;
@@ -35,6 +37,7 @@ pub use comparison::{Differences, compare};
 pub use csv_lines::Records;
 pub use details::{Details, SHOWN, row_of};
 pub use event_line::write_event;
+pub use facts::{Facts, transactions_in, write_facts};
 pub use fault_name::{event_reason, gather_reason, greet_reason, wire_reason};
 pub use json_lines::{
     write_image, write_json_bytes, write_json_name, write_json_text, write_object,

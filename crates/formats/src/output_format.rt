@@ -33,6 +33,17 @@ pub enum Encoding {
     Base64,
 }
 
+impl Encoding {
+    /// Its word of `--bytes`.
+    pub fn word(self) -> &'static str {
+        match self {
+            Encoding::Utf8 => "utf8",
+            Encoding::Hex => "hex",
+            Encoding::Base64 => "base64",
+        }
+    }
+}
+
 /// The words of `--format`.
 pub const FORMATS: [&str; 5] = ["text", "csv", "json", "tsv", "sql"];
 

@@ -1,6 +1,8 @@
 //! How many rows of each table a database has.
 
+use crate::facts::{Facts, write_facts, write_filter, write_members};
 use crate::name::write_table;
+use crate::output_format::Format;
 use binlog::Follow;
 use std::alloc::Global;
 use std::io;
@@ -15,23 +17,13 @@ struct Tally {
     copies: u128,
 }
 
-/// Writes `only` and the name of each table of a filter, or `all`.
-fn write_filter<W: Write>(filter: &Follow, out: &mut W) -> io::Result<()> {
-    if filter.names().is_empty() {
-        return writeln!(out, "all");
-    }
-    for (schema, table) in filter.names() {
-        write!(out, "only ")?;
-        write_table(schema, table, out)?;
-        writeln!(out)?;
-    }
-    Ok(())
-}
-
-/// Counts the rows of each table, and writes its line once the next table begins.
+/// Counts the rows of each table, and writes its line, or its object of JSON in a list, once the next table begins.
 #[derive(Drop)]
 pub struct Tallies<'o, W> {
     alloc: Global,
+    format: Format,
+    /// Whether the list has an object.
+    has_one: bool,
     /// The table of the last row.
     last: Option<Tally>,
     out: &'o mut W,
@@ -39,17 +31,25 @@ pub struct Tallies<'o, W> {
 
 impl<'o, W: Write> Tallies<'o, W> {
     /// Nothing is counted, and nothing written to this output.
-    pub fn new(alloc: Global, out: &'o mut W) -> Tallies<'o, W> {
+    pub fn new(alloc: Global, format: Format, out: &'o mut W) -> Tallies<'o, W> {
         Tallies {
             alloc,
+            format,
+            has_one: false,
             last: None,
             out,
         }
     }
 
-    /// Writes the filter of a database, before its rows are counted.
-    pub fn begin(&mut self, filter: &Follow) -> io::Result<()> {
-        write_filter(filter, self.out)
+    /// Writes what is known of a database if that is given, and its filter, before its rows are counted.
+    pub fn begin(&mut self, filter: &Follow, facts: Option<Facts<'_>>) -> io::Result<()> {
+        if let Some(facts) = facts {
+            write_facts(self.alloc, facts, self.format, self.out)?;
+        }
+        match self.format {
+            Format::Json => Ok(()),
+            _ => write_filter(filter, self.out),
+        }
     }
 
     /// Counts a row of a table with this many copies. The rows of a table come one after the other.
@@ -67,12 +67,33 @@ impl<'o, W: Write> Tallies<'o, W> {
         Ok(())
     }
 
-    /// Writes the line of the last row's table, if there was a row.
-    pub fn write_last(&mut self) -> io::Result<()> {
-        match &self.last {
-            Some(last) => write_tally(last, self.out),
-            None => Ok(()),
+    /// Writes the line of the last row's table, if there was a row, and ends the list.
+    pub fn finish(&mut self) -> io::Result<()> {
+        self.write_last()?;
+        match self.format {
+            Format::Json => self.out.write_all(b"]}\n"),
+            _ => Ok(()),
         }
+    }
+
+    /// Writes the line or the object of the last row's table, if there was a row.
+    fn write_last(&mut self) -> io::Result<()> {
+        let Some(last) = &self.last else {
+            return Ok(());
+        };
+        if self.format != Format::Json {
+            return write_tally(last, self.out);
+        }
+        if self.has_one {
+            self.out.write_all(b",")?;
+        }
+        self.has_one = true;
+        write_members(self.alloc, &last.schema, &last.table, self.out)?;
+        write!(
+            self.out,
+            ",\"rows\":{},\"copies\":{}}}",
+            last.rows, last.copies
+        )
     }
 
     /// Adds a row to the tally of the last row's table. Returns whether it is of that table.

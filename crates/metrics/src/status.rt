@@ -2,6 +2,7 @@
 
 use crate::numbers::{micros_since_1970, write_seconds};
 use crate::status_file::StatusFile;
+use formats::transactions_in;
 use gtid::{Gtid, GtidSet};
 use std::alloc::Global;
 use std::cell::Cell;
@@ -202,16 +203,7 @@ fn write_count(facts: &Facts, out: &mut Vec<u8>) -> io::Result<()> {
     let Some(executed) = &facts.executed else {
         return Ok(());
     };
-    writeln!(out, "{EXECUTED} {}", count(executed))
-}
-
-/// How many transactions a set has.
-fn count(executed: &GtidSet) -> u64 {
-    let mut sum = 0u64;
-    for span in executed.spans() {
-        sum = sum.saturating_add(span.hi.saturating_sub(span.lo));
-    }
-    sum
+    writeln!(out, "{EXECUTED} {}", transactions_in(executed))
 }
 
 /// Writes a time, if it is known.

@@ -29,7 +29,7 @@ use crate::commands::minus::minus;
 use crate::commands::replay::replay;
 use crate::commands::select::select;
 use crate::commands::sets::{adopt, gtids, missing};
-use crate::commands::show::{show, tables};
+use crate::commands::show::{info, show, tables};
 use crate::commands::skip::skip;
 use crate::commands::verify::verify;
 use crate::report::failure::{DONE, Failure, MEMORY, of_words, over_argument, write_failure};
@@ -207,7 +207,7 @@ fn run_named<'a, W: Write, E: Write>(
         "load" => load(rt, given, out, err),
         "clear" => clear(rt, given, out, err),
         "abandon" => abandon(rt, given, out, err),
-        "show" | "tables" | "gtids" | "missing" => read(rt, name, given, out, err),
+        "show" | "tables" | "info" | "gtids" | "missing" => read(rt, name, given, out, err),
         "adopt" => adopt(rt, given, out),
         "skip" => skip(rt, given, out),
         "copy" => copy(rt, given),
@@ -251,6 +251,7 @@ fn read<W: Write, E: Write>(
 {
     let done = match name {
         "tables" => tables(rt, given, out),
+        "info" => info(rt, given, out),
         "gtids" => gtids(rt, given, out),
         "missing" => missing(rt, given, out),
         _ => show(rt, given, out, err),

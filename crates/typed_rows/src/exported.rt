@@ -80,14 +80,17 @@ impl<'d, 'c, T: Alter> ExportedRows<'d, 'c, T> {
             .write(&mut self.collected, schema, table, count, image)
     }
 
-    /// Commits the tables and their rows. Returns of which of the tables there was a row.
-    pub fn finish(self) -> Result<Chosen, TableError> {
+    /// Commits the tables and their rows, and the table of the place with this set. Returns of which of the tables there was a row.
+    pub fn finish(self, executed: Option<&str>) -> Result<Chosen, TableError> {
         let ExportedRows {
             chosen,
             mut collected,
             mut rows,
         } = self;
         rows.add_collected(&mut collected)?;
+        if let Some(executed) = executed {
+            rows.add_place(executed)?;
+        }
         rows.commit()?;
         Ok(chosen)
     }

@@ -8,12 +8,16 @@ use crate::misfit::{CellError, Fault, Misfit, copied};
 use crate::object::has_key;
 use crate::shown::show;
 use crate::stored::{Stored, store};
-use crate::tables::Tables;
+use crate::tables::{TableName, Tables, named};
 use columns::{Column, DescribedTable, Key};
 use gather::ImageRef;
 use sqlite::types::ValueRef;
 use sqlite::{Alter, Connection, Constraint, Error, ErrorCode, Statement, Transaction};
 use std::alloc::{AllocError, AllocFailed, Global};
+
+/// The table that says what is executed: a text that is empty here, in which a program keeps its place in a change feed, and the
+/// set.
+const PLACE: &str = "CREATE TABLE \"mrep_place\" (\"place\" TEXT, \"executed\" TEXT) STRICT";
 
 const NO_MEMORY: Error = Error::SqliteFailure(ErrorCode::OutOfMemory);
 
@@ -44,6 +48,8 @@ pub struct TableRows<'d, 'c, T: Alter> {
     tx: Transaction<'c, T>,
     /// The table of the last row, and the statement that adds one to it.
     last: Option<(&'d DescribedTable, Statement)>,
+    /// The table of the last row, where that is not made.
+    left_out: Option<TableName>,
 }
 
 impl<'d, 'c, T: Alter> TableRows<'d, 'c, T> {
@@ -62,6 +68,7 @@ impl<'d, 'c, T: Alter> TableRows<'d, 'c, T> {
             tables,
             tx,
             last: None,
+            left_out: None,
         })
     }
 
@@ -87,6 +94,16 @@ impl<'d, 'c, T: Alter> TableRows<'d, 'c, T> {
         Ok(())
     }
 
+    /// Adds the table of the place, with the printed set of what is executed.
+    pub fn add_place(&mut self, executed: &str) -> Result<(), Error> {
+        self.tx.execute(PLACE, &[])?;
+        self.tx.execute(
+            "INSERT INTO \"mrep_place\" VALUES ('', ?)",
+            &[ValueRef::Text(executed.as_bytes())],
+        )?;
+        Ok(())
+    }
+
     /// Commits the tables and their rows.
     pub fn commit(self) -> Result<(), Error> {
         let TableRows { tx, .. } = self;
@@ -97,14 +114,19 @@ impl<'d, 'c, T: Alter> TableRows<'d, 'c, T> {
     fn is_at(&self, schema: &[u8], table: &[u8]) -> bool {
         match &self.last {
             Some((last, _)) => last.name.as_bytes() == table && last.schema.as_bytes() == schema,
-            None => false,
+            None => match &self.left_out {
+                Some(last) => last.table.as_slice() == table && last.schema.as_slice() == schema,
+                None => false,
+            },
         }
     }
 
     /// Prepares for the rows of a table, if it is made.
     fn turn_to(&mut self, schema: &[u8], table: &[u8]) -> Result<(), TableError> {
         self.last = None;
+        self.left_out = None;
         let Some(table) = self.tables.table(schema, table) else {
+            self.left_out = Some(named(self.alloc, schema, table)?);
             return Ok(());
         };
         let name = self.tables.name_of(self.alloc, table)?;

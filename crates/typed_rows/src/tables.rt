@@ -17,6 +17,9 @@ const MOST_COLUMNS: usize = 2_000;
 /// How the names begin that SQLite keeps for itself (SQLite, "CREATE TABLE", section 2).
 const RESERVED: &[u8] = b"sqlite_";
 
+/// The name of the table of the place.
+const PLACE: &[u8] = b"mrep_place";
+
 /// The name of a table.
 #[derive(Debug, Drop)]
 pub struct TableName {
@@ -39,6 +42,9 @@ pub enum TableFault {
     /// Its name begins as those that SQLite keeps for itself.
     #[error("a name that begins with sqlite_, which SQLite keeps for itself")]
     Reserved,
+    /// Its name is that of the table of the place, which is asked for.
+    #[error("its name is that of the table that --place makes")]
+    Place,
     /// It has so many columns, which are too many.
     #[error("it has {0} columns, and a table of SQLite has at most 2000")]
     Columns(usize),
@@ -133,16 +139,19 @@ impl<T: Drop> From<AllocFailed<T>> for TablesFault {
 pub struct Tables {
     tables: DescribedTables,
     is_bare: bool,
+    has_place: bool,
 }
 
 impl Tables {
     /// The tables of a description that are asked for: all, or those that are named; of a schema alone if one is given, under
-    /// their names without it. Each is described, and SQLite takes its name and those of its columns.
+    /// their names without it. Each is described, and SQLite takes its name and those of its columns. None has the name of the table of
+    /// the place, where that is made too.
     pub fn new(
         alloc: Global,
         description: Description,
         only: &Follow,
         schema: Option<&[u8]>,
+        has_place: bool,
     ) -> Result<Tables, TablesFault> {
         let mut tables = DescribedTables::new(description);
         for (of, table) in only.names() {
@@ -154,11 +163,18 @@ impl Tables {
         if tables.all().is_empty() {
             return Err(TablesFault::NoTable);
         }
-        judge_all(alloc, tables.all(), schema.is_some())?;
-        Ok(Tables {
+        let found = Tables {
             tables,
             is_bare: schema.is_some(),
-        })
+            has_place,
+        };
+        judge_all(alloc, &found)?;
+        Ok(found)
+    }
+
+    /// Whether the table of the place is made beside them.
+    pub fn has_place(&self) -> bool {
+        self.has_place
     }
 
     /// The described table of this name, if it is made.
@@ -206,7 +222,7 @@ fn fault_of(alloc: Global, schema: &[u8], table: &[u8], fault: TableFault) -> Ta
 }
 
 /// The name of a table, with bytes of its own.
-fn named(alloc: Global, schema: &[u8], table: &[u8]) -> Result<TableName, AllocError> {
+pub(crate) fn named(alloc: Global, schema: &[u8], table: &[u8]) -> Result<TableName, AllocError> {
     Ok(TableName {
         schema: Vec::from_slice(alloc, schema)?,
         table: Vec::from_slice(alloc, table)?,
@@ -214,16 +230,19 @@ fn named(alloc: Global, schema: &[u8], table: &[u8]) -> Result<TableName, AllocE
 }
 
 /// Refuses tables that SQLite does not take, alone or beside each other.
-fn judge_all(alloc: Global, tables: &[DescribedTable], is_bare: bool) -> Result<(), TablesFault> {
+fn judge_all(alloc: Global, tables: &Tables) -> Result<(), TablesFault> {
     let mut seen = BTreeMap::new(alloc);
-    for (place, table) in tables.iter().enumerate() {
+    for (place, table) in tables.all().iter().enumerate() {
         let (schema, name) = (table.schema.as_bytes(), table.name.as_bytes());
-        let in_sqlite = lowered(alloc, name_in(alloc, table, is_bare)?.as_str())?;
+        let in_sqlite = lowered(alloc, tables.name_of(alloc, table)?.as_str())?;
+        if tables.has_place && in_sqlite.as_slice() == PLACE {
+            return Err(fault_of(alloc, schema, name, TableFault::Place));
+        }
         if let Some(fault) = fault_in(alloc, table, in_sqlite.as_slice())? {
             return Err(fault_of(alloc, schema, name, fault));
         }
         let before: Option<usize> = seen.insert(in_sqlite, place)?;
-        if let Some(other) = before.and_then(|at| tables.get(at)) {
+        if let Some(other) = before.and_then(|at| tables.all().get(at)) {
             let first = named(alloc, other.schema.as_bytes(), other.name.as_bytes())?;
             return Err(TablesFault::Same(first, named(alloc, schema, name)?));
         }

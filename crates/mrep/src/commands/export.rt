@@ -54,20 +54,11 @@ fn wanted(rt: &HostRuntime, given: &ArgMatches<'_>, name: &str) -> Result<Export
         Some(word) => Some(over_argument(alloc, parse_schema(alloc, word))?),
         None => None,
     };
-    described(rt, name, only, bare.as_deref())
-}
-
-/// What is exported of the description in the file of this name: these of its tables, those of one schema without its name.
-fn described(
-    rt: &HostRuntime,
-    name: &str,
-    only: Follow,
-    bare: Option<&[u8]>,
-) -> Result<Export, Failure> {
-    let tables = tables(rt, name, &only, bare)?;
+    let has_place = given.get_flag("place");
+    let tables = tables(rt, name, &only, bare.as_deref(), has_place)?;
     Ok(Export {
         tables,
-        chosen: Chosen::new(rt.alloc(), only)?,
+        chosen: Chosen::new(alloc, only)?,
     })
 }
 
@@ -77,9 +68,10 @@ fn tables(
     name: &str,
     only: &Follow,
     bare: Option<&[u8]>,
+    has_place: bool,
 ) -> Result<Tables, Failure> {
     let described = read_description(rt, name)?;
-    match Tables::new(rt.alloc(), described, only, bare) {
+    match Tables::new(rt.alloc(), described, only, bare, has_place) {
         Ok(tables) => Ok(tables),
         Err(fault) => Err(of_tables(rt.alloc(), name, &fault)),
     }

@@ -1,11 +1,12 @@
-//! `mrep show` and `mrep tables`: the rows of a database, and how many there are of each table.
+//! `mrep show`, `mrep tables` and `mrep info`: the rows of a database, how many there are of each table, and what else is known of it.
 
 use crate::database::description::read_tables;
 use crate::database::printer::{Selection, print_rows, print_tallies};
 use crate::report::failure::{Failure, of_argument, over_argument};
 use clap::ArgMatches;
 use command_line::{ArgumentFault, parse_encoding, parse_tables, word};
-use formats::{Chosen, format_of};
+use formats::{Chosen, Format, format_of};
+use std::fs;
 use std::io::Write;
 use typed_rows::DescribedTables;
 
@@ -15,7 +16,28 @@ pub fn tables<W: Write>(
     given: &ArgMatches<'_>,
     out: &mut W,
 ) -> Result<(), Failure> {
-    print_tallies(rt, word(given, "db"), out)
+    print_tallies(rt, word(given, "db"), Format::Text, None, out)
+}
+
+/// Prints what is known of a database as a whole.
+pub fn info<W: Write>(
+    rt: &HostRuntime,
+    given: &ArgMatches<'_>,
+    out: &mut W,
+) -> Result<(), Failure> {
+    let name = word(given, "db");
+    let wal = format!(in rt.alloc(); "{name}-wal")?;
+    let sizes = [size_of(rt, name), size_of(rt, wal.as_str())];
+    let format = format_of(given.get_str("format"));
+    print_tallies(rt, name, format, Some(sizes), out)
+}
+
+/// The size of the file of a name; 0 where there is none.
+fn size_of(rt: &HostRuntime, name: &str) -> u64 {
+    match fs::metadata(rt, name) {
+        Ok(metadata) => metadata.len(),
+        Err(_) => 0,
+    }
 }
 
 /// Prints the rows of the tables that the arguments name, in the format that they name.

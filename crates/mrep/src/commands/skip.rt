@@ -12,7 +12,7 @@ use clap::ArgMatches;
 use command_line::{parse_gtid, word};
 use gather::{Changes, Delivery};
 use gtid::{Gtid, GtidSet};
-use replica::{ChangeEnd, ChangedFile, Observer, change_file};
+use replica::{ChangeEnd, ChangedFile, Observer, change_file, is_mark};
 use reports::{SkipStop, SkipWatch, UNFINISHED};
 use sqlite::File;
 use sqlite_disk::Unknown;
@@ -22,6 +22,8 @@ use std::convert::Infallible;
 use std::io::Write;
 use typed_rows::SkipFeed;
 
+const MARK: &str = "it says how far a first copy has come, and load or abandon records it";
+
 /// Records a GTID as executed, without changes, and prints whether it was new.
 pub fn skip<'a, W: Write>(
     rt: &'a HostRuntime,
@@ -30,7 +32,11 @@ pub fn skip<'a, W: Write>(
 ) -> Result<u8, Failure>
     ensures { IfOk result (λ status. status ≤ MEMORY) }
 {
-    let gtid = over_argument(rt.alloc(), parse_gtid("G", word(given, "G")))?;
+    let name = word(given, "G");
+    let gtid = over_argument(rt.alloc(), parse_gtid("G", name))?;
+    if is_mark(gtid) {
+        return Err(unusable(rt.alloc(), name, MARK));
+    }
     if skip_in(rt, word(given, "db"), gtid, skip_feed(rt, given))? {
         writeln!(out, "Done")?;
     } else {

@@ -3,12 +3,12 @@
 use crate::database::open::{listed, unopened_copy};
 use crate::report::failure::{Failure, of_database, of_misfit};
 use binlog::Follow;
-use formats::{Chosen, Shown};
+use formats::{Chosen, Shown, text_of};
 use gtid::GtidSet;
 use replica::{Lister, list_file};
 use sqlite::{Alter, Connection, Error, ErrorCode};
 use sqlite_disk::Unknown;
-use std::alloc::Global;
+use std::alloc::{AllocError, Global};
 use std::io;
 use std::io::Write;
 use store::{Listed, StoreFault, Visitor};
@@ -79,17 +79,20 @@ fn add_rows<T: Alter>(
     let mut added = Added {
         alloc,
         rows,
+        has_place: tables.has_place(),
         is_empty: true,
+        executed: None,
         following: Follow::all(alloc),
     };
     give_rows(rt, source, &mut added)?;
     let Added {
         rows,
         is_empty,
+        executed,
         following,
         ..
     } = added;
-    match rows.finish() {
+    match rows.finish(executed.as_deref()) {
         Ok(chosen) => Ok(Found {
             chosen,
             is_empty,
@@ -143,8 +146,28 @@ impl Found {
 struct Added<'d, 'c, T: Alter> {
     alloc: Global,
     rows: ExportedRows<'d, 'c, T>,
+    has_place: bool,
     is_empty: bool,
+    /// The executed set as a text, where it is asked for.
+    executed: Option<String>,
     following: Follow,
+}
+
+impl<T: Alter> Added<'_, '_, T> {
+    /// Keeps what the database has executed.
+    fn keep(&mut self, executed: &GtidSet, following: &Follow) -> Result<(), AllocError> {
+        self.is_empty = executed.is_subset(&GtidSet::new(self.alloc));
+        if self.has_place {
+            self.executed = Some(text_of(self.alloc, executed)?);
+        }
+        match Follow::new(self.alloc, following.names()) {
+            Ok(following) => {
+                self.following = following;
+                Ok(())
+            }
+            Err(_) => Err(AllocError),
+        }
+    }
 }
 
 impl<T: Alter> Visitor for Added<'_, '_, T> {
@@ -161,12 +184,8 @@ impl<T: Alter> Lister for Added<'_, '_, T> {
     ghost begun = { λ _ _ _ _ _. Unit {0} };
 
     fn begin(&mut self, executed: &GtidSet, following: &Follow) -> Result<bool, TableError> {
-        self.is_empty = executed.is_subset(&GtidSet::new(self.alloc));
-        match Follow::new(self.alloc, following.names()) {
-            Ok(following) => {
-                self.following = following;
-                Ok(true)
-            }
+        match self.keep(executed, following) {
+            Ok(()) => Ok(true),
             Err(_) => Err(TableError::Database(Error::SqliteFailure(ErrorCode::OutOfMemory))),
         }
     }

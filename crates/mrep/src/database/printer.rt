@@ -3,9 +3,9 @@
 use crate::database::reading::list_in;
 use crate::report::failure::{Failure, of_row};
 use binlog::Follow;
-use formats::{Chosen, Encoding, Format, Records, Tallies, write_object};
-use gtid::GtidSet;
-use replica::Lister;
+use formats::{Chosen, Encoding, Facts, Format, Records, Tallies, write_object};
+use gtid::{Gtid, GtidSet};
+use replica::{Lister, unfinished_copy};
 use reports::TextRows;
 use std::alloc::Global;
 use std::io;
@@ -89,13 +89,20 @@ fn print_records<W: Write>(
     Ok(selection.chosen)
 }
 
-/// Prints the filter, and a line for each table with rows.
-pub fn print_tallies<W: Write>(rt: &HostRuntime, name: &str, out: &mut W) -> Result<(), Failure> {
+/// Prints the filter, and a line for each table with rows; where its sizes are given, what else is known of the database before that.
+pub fn print_tallies<W: Write>(
+    rt: &HostRuntime,
+    name: &str,
+    format: Format,
+    sizes: Option<[u64; 2]>,
+    out: &mut W,
+) -> Result<(), Failure> {
     let mut counts = Counts {
-        tallies: Tallies::new(rt.alloc(), out),
+        sizes,
+        tallies: Tallies::new(rt.alloc(), format, out),
     };
     list_in(rt, name, &mut counts)??;
-    counts.tallies.write_last()?;
+    counts.tallies.finish()?;
     Ok(())
 }
 
@@ -249,6 +256,8 @@ impl<W: Write> Lister for CsvRows<'_, W> {
 /// Counts the rows of each table.
 #[derive(Drop)]
 struct Counts<'o, W> {
+    /// The sizes of the database's files, where more than its tables is asked for.
+    sizes: Option<[u64; 2]>,
     tallies: Tallies<'o, W>,
 }
 
@@ -265,8 +274,17 @@ impl<W: Write> Visitor for Counts<'_, W> {
 impl<W: Write> Lister for Counts<'_, W> {
     ghost begun = { λ _ _ _ _ _. Unit {0} };
 
-    fn begin(&mut self, _executed: &GtidSet, following: &Follow) -> io::Result<bool> {
-        self.tallies.begin(following)?;
+    fn begin(&mut self, executed: &GtidSet, following: &Follow) -> io::Result<bool> {
+        let facts = match self.sizes {
+            Some(sizes) => Some(Facts {
+                executed,
+                following,
+                unfinished: unfinished_copy(executed).map(|source| Gtid { source, number: 1 }),
+                sizes,
+            }),
+            None => None,
+        };
+        self.tallies.begin(following, facts)?;
         Ok(true)
     }
 }

@@ -220,7 +220,7 @@ impl<'g, 'a> Wanted<'g, 'a> {
         if name == OUTPUT {
             return Ok(Some(Feed::to_output(rt.alloc(), encoding)));
         }
-        match Feed::to_file(rt, name, self.db, others, encoding) {
+        match Feed::to_file(rt, name, self.db, others, Some(encoding)) {
             Ok(feed) => Ok(Some(feed)),
             Err(fault) => Err(of_file(rt.alloc(), name, fault)),
         }
