@@ -12,11 +12,13 @@
 # make mutants, make record
 #             tries all wrong bodies; tries those that tests/prover/refused does not have as they are, and writes it. Both
 #             prove first what is not proved yet
+# make power  looks at what a power failure may leave of the files of each command: thousands of states, for some minutes, where
+#             make test looks at some hundred (needs strace)
 # make bench  times mrep, the sets and the transactions against plain Rust programs that do the same jobs, the store
 #             against the C library of SQLite, a whole replay against a C program, and mrep over twice and four times as
 #             much (needs rustc; the store also python3, the replay cc and the library of SQLite)
 
-.PHONY: all build demo install uninstall test mutants record bench
+.PHONY: all build demo install uninstall test mutants record power bench
 
 PREFIX = /usr/local
 DESTDIR =
@@ -49,6 +51,9 @@ mutants:
 
 record:
 	tests/run --record
+
+power: build
+	tests/hostile/power/run "$(PROGRAM)" 400 1 prefix ext4 zeros posix bytes
 
 bench: build
 	bench/run

@@ -19,7 +19,7 @@ from record import NAMING, Cut, Named, Op, Removed, Renamed, Synced, SyncedFolde
 SECTOR, PAGE = 512, 4096
 MODELS = ('prefix', 'ext4', 'zeros', 'posix', 'bytes')
 # Of how many changes of names all subsets are tried, and of how many writes at a moment each by itself.
-SUBSETS, SINGLE, RANDOM = 4, 6, 3
+SUBSETS, SINGLE = 4, 6
 State = Dict[str, Tuple[int, bytes]]
 Recipe = Tuple[str, Callable[[], State]]
 
@@ -202,24 +202,25 @@ class Disk:
 
     # The models
 
-    def recipes(self, model: str, chance: random.Random) -> Iterator[Recipe]:
-        """States that a power failure may leave now, each with what was lost."""
+    def recipes(self, model: str, chance: random.Random, tries: int) -> Iterator[Recipe]:
+        """States that a power failure may leave now, each with what was lost: those that are tried in any case, and so many others."""
         writes = sorted((index, op) for ino in set(self.live.values()) | set(self.names.values()) for index, op in self.since[ino])
         if model == 'prefix':
-            return self.prefix()
+            return self.prefix(chance, tries)
         if model in ('posix', 'bytes'):
-            return self.posix(writes, chance, model == 'bytes')
-        return self.ext4(writes, chance, model == 'zeros')
+            return self.posix(writes, chance, tries, model == 'bytes')
+        return self.ext4(writes, chance, tries, model == 'zeros')
 
-    def prefix(self) -> Iterator[Recipe]:
+    def prefix(self, chance: random.Random, tries: int) -> Iterator[Recipe]:
         yield 'nothing is lost', self.now
         index = self.at - 1
         op = self.ops[index] if self.at else None
-        for sector in sectors(op)[1:] if isinstance(op, Write) else ():
+        ends = sectors(op)[1:] if isinstance(op, Write) else range(0)
+        for sector in ends if len(ends) <= tries else chance.sample(ends, tries):
             yield f'operation {index} from sector {sector} on', lambda end=sector * SECTOR: self.state(
                 self.live, lambda at, it, _: up_to(it, end) if at == index else whole(it))
 
-    def posix(self, writes: List[Tuple[int, Union[Write, Cut]]], chance: random.Random, tears: bool) -> Iterator[Recipe]:
+    def posix(self, writes: List[Tuple[int, Union[Write, Cut]]], chance: random.Random, tries: int, tears: bool) -> Iterator[Recipe]:
         every, names = {index for index, _ in writes}, [index for index, _ in self.moved]
 
         def left(lost: Collection[int], chosen: Collection[int] = tuple(names)) -> Callable[[], State]:
@@ -247,10 +248,10 @@ class Disk:
                 for sector in chance.sample(sectors(op), min(2, len(sectors(op)))):
                     yield f'sector {sector} of operation {index}', some(
                         lambda at, it, _, index=index, sector=sector: whole(it)._replace(sectors={*sectors(it)} - {sector}) if at == index else whole(it))
-        for number in range(RANDOM if writes or names else 0):
+        for number in range(tries if writes or names else 0):
             yield f'some, {number}', some(random_parts(chance.random(), tears), [it for it in names if chance.random() < 0.6])
 
-    def ext4(self, writes: List[Tuple[int, Union[Write, Cut]]], chance: random.Random, holes: bool) -> Iterator[Recipe]:
+    def ext4(self, writes: List[Tuple[int, Union[Write, Cut]]], chance: random.Random, tries: int, holes: bool) -> Iterator[Recipe]:
         full = len(self.journal)
         counts = [*range(self.forced, full + 1)]
 
@@ -274,7 +275,7 @@ class Disk:
             for sector in chance.sample(sectors(op), min(2, len(sectors(op)))) if holes else ():
                 yield f'sector {sector} of operation {index}', left(
                     lambda at, it, _, index=index, sector=sector: whole(it)._replace(sectors={*sectors(it)} - {sector}) if at == index else whole(it))
-        for number in range(RANDOM if data or full > self.forced else 0):
+        for number in range(tries if data or full > self.forced else 0):
             yield f'some, {number}', left(random_growth(chance.random(), holes), chance.choice(counts))
 
 

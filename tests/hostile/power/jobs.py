@@ -3,6 +3,7 @@
 import hashlib
 import json
 import os
+import random
 import shutil
 import sys
 import tempfile
@@ -49,13 +50,17 @@ HISTORY: List[Sequence[bytes]] = [
     [rows(31, *(it for number in range(10, 14) for it in (image(number), image(number, 'new'))))], [rows(32, *map(image, range(20, 40)))], [inserted(5, 6)]]
 
 
-def stream(first: int = 1, last: int = len(HISTORY)) -> bytes:
-    """What the source sends of these transactions."""
-    payloads = [FORMAT]
-    for number, changes in enumerate(HISTORY, 1):
-        if first <= number <= last:
-            payloads += [gtid(number), BEGIN, *([MAP, *changes] if changes else []), event(16, number.to_bytes(8, 'little'))]
-    return dump(*payloads)
+def transaction(number: int, changes: Sequence[bytes]) -> List[bytes]:
+    """The payloads of a transaction."""
+    return [gtid(number), BEGIN, *([MAP, *changes] if changes else []), event(16, number.to_bytes(8, 'little'))]
+
+
+TRANSACTIONS = [transaction(number, changes) for number, changes in enumerate(HISTORY, 1)]
+
+
+def stream(transactions: Sequence[Sequence[bytes]]) -> bytes:
+    """What a source sends of these transactions."""
+    return dump(FORMAT, *(payload for it in transactions for payload in it))
 
 
 def opening(feed: str) -> List[str]:
@@ -63,11 +68,11 @@ def opening(feed: str) -> List[str]:
     return ['replay', '--db', 'F', '--changes', feed, '/dev/null']
 
 
-def contents() -> List[Content]:
+def contents(transactions: Sequence[Sequence[bytes]]) -> List[Content]:
     """What a database has after each number of transactions, by the independent reading."""
     database, found = reading.Database(), [NOTHING]
-    for number in range(1, len(HISTORY) + 1):
-        reading.Connection(stream(number, number), database).read()
+    for it in transactions:
+        reading.Connection(stream([it]), database).read()
         found.append((database.gtids().strip(), database.show()))
     return found
 
@@ -137,6 +142,8 @@ class Job:
     may_be: Tuple[str, ...] = ()
     # What standard input has.
     data = b''
+    # How many states are looked at, where they are large.
+    most = 1 << 30
 
     def __init__(self, name: str, folder: str, found: List[Content], again: Sequence[Sequence[str]], feeds: Sequence[str] = (), adopts: bool = False) -> None:
         self.name, self.folder, self.contents, self.again = name, folder, found, again
@@ -267,6 +274,8 @@ def lay(state: State, folder: str, folders: Collection[str] = ('.',)) -> None:
     for name in sorted(folders):
         os.makedirs(os.path.join(folder, name), exist_ok=True)
     for name, (ino, data) in state.items():
+        if os.path.isabs(name):
+            raise Wrong(f'{name} is no file of the folder')
         path = os.path.join(folder, name)
         os.makedirs(os.path.dirname(path), exist_ok=True)
         if ino in made:
@@ -319,8 +328,8 @@ class Copied(Job):
     def is_done(self, folder: str, count: int) -> None:
         same('at the end TO', self.there(folder), self.new)
         if count and '--force' not in self.again[0]:
-            # Where it was refused, what had made it may lie there under its second name.
-            for name in (f'{TO}.part', f'{TO}.part-wal'):
+            # Where it was refused, what had made it may lie there: the next one that makes TO takes it.
+            for name in (f'{TO}.part', f'{TO}.part-wal', f'{TO}.rows.part', f'{TO}.rows.part-wal'):
                 if os.path.exists(os.path.join(folder, name)):
                     os.remove(os.path.join(folder, name))
         super().is_done(folder, count)
@@ -355,9 +364,9 @@ class Makers:
     """Makes the jobs, each in a folder of its own."""
 
     def __init__(self, work: str) -> None:
-        self.work, self.history = work, contents()
-        self.stream, self.columns = write(os.path.join(work, 'stream.bin'), stream()), write(os.path.join(work, 'items.columns'), COLUMNS)
-        self.half = write(os.path.join(work, 'half.bin'), stream(1, 4))
+        self.work, self.history = work, contents(TRANSACTIONS)
+        self.stream, self.columns = write(os.path.join(work, 'stream.bin'), stream(TRANSACTIONS)), write(os.path.join(work, 'items.columns'), COLUMNS)
+        self.half = write(os.path.join(work, 'half.bin'), stream(TRANSACTIONS[:4]))
         self.copy = copies.text(f'{A}:1-9', [b'shop\titems\t%d\t%s' % (number, (b'copied %d' % number).hex().upper().encode()) for number in range(90)])
         self.copy_file = write(os.path.join(work, 'copy.tsv'), self.copy)
 
@@ -392,11 +401,23 @@ class Makers:
         words = ['replay', '--db', 'F', '--changes', FEED, self.stream]
         return Job('replay that goes on', self.replayed('on', self.half, '--changes', FEED), self.history, [words], [FEED], adopts=True).record()
 
-    def killed(self) -> Job:
-        """A replay that is killed as it has synced changes that it has not committed, and is started again."""
-        job = Job('replay after a kill', self.folder('killed'), self.history, [self.replay_words()], [FEED], adopts=True)
+    def killed(self, call: Tuple[str, int]) -> Job:
+        """A replay that is killed before a call, and is started again."""
+        name = f'replay after a kill before {call[0]} {call[1]}'
+        job = Job(name, self.folder(name), self.history, [self.replay_words()], [FEED], adopts=True)
         job.ends = [0, len(self.history) - 1]
-        job.recording.run([PROGRAM, *job.again[0]], killed_at=self.after_changes(6))
+        job.recording.run([PROGRAM, *job.again[0]], killed_at=call)
+        return job.record()
+
+    def long(self) -> Job:
+        """A replay whose WAL file is begun anew while it is read: each transaction puts rows in and takes those of the last one out."""
+        def made(number: int) -> List[bytes]:
+            return [image(it, f'{it} '.ljust(250, '-')) for it in range(number * 200, number * 200 + 200)]
+        more = [transaction(9, [rows(30, *made(9))])]
+        more += [transaction(number, [rows(30, *made(number)), rows(32, *made(number - 1))]) for number in range(10, 35)]
+        file = write(os.path.join(self.work, 'long.bin'), stream([*TRANSACTIONS, *more]))
+        job = Job('long replay', self.replayed('long replay', self.stream), contents([*TRANSACTIONS, *more])[8:], [['replay', '--db', 'F', file]])
+        job.most = 60
         return job.record()
 
     def replay_words(self) -> List[str]:
@@ -513,12 +534,17 @@ class Makers:
         base.close()
         return Job('gtids of layout 1', folder, [self.history[4]], [['gtids', '--db', 'F']]).record()
 
-    def all(self, port: str) -> Iterator[Job]:
-        """The jobs, each recorded as it is asked for."""
-        yield self.replay()
+    def all(self, port: str, chance: random.Random, kills: int) -> Iterator[Job]:
+        """The jobs, each recorded as it is asked for, with so many that begin with a kill before a call."""
+        first = self.replay()
+        yield first
         yield self.replay_on()
         yield self.replay_aside()
-        yield self.killed()
+        calls = [call for call, op in zip(first.recording.calls, first.recording.ops) if isinstance(op, (Write, Synced))]
+        for call in chance.sample(calls, kills):
+            yield self.killed(call)
+        if kills > 1:
+            yield self.long()
         yield self.reopened()
         yield self.follow(port)
         yield self.load()
