@@ -5,13 +5,13 @@ import os
 import re
 import shutil
 import subprocess
-from typing import Collection, Dict, List, NamedTuple, Optional, Tuple, Union
+from typing import Dict, List, NamedTuple, Optional, Tuple, Union
 
 from mrep import Wrong, content, write
 
 # The calls that are read, besides those that change nothing; what another one did to a file is found at the end.
-CALLS = ('open', 'openat', 'close', 'dup', 'dup2', 'dup3', 'fcntl', 'lseek', 'read', 'readv', 'write', 'writev', 'pwrite64', 'sendto',
-         'ftruncate', 'fsync', 'fdatasync', 'rename', 'renameat', 'renameat2', 'link', 'linkat', 'unlink', 'unlinkat', 'socket', 'accept4')
+CALLS = ('open', 'openat', 'close', 'dup', 'dup2', 'dup3', 'fcntl', 'lseek', 'read', 'readv', 'write', 'writev', 'pwrite64',
+         'ftruncate', 'fsync', 'fdatasync', 'rename', 'renameat', 'renameat2', 'link', 'linkat', 'unlink', 'unlinkat', 'socket')
 LINE = re.compile(rb'\d+ +(\w+)\((.*)\) += (-?\d+|\?)[^=]*', re.S)
 TEXT = re.compile(rb'"((?:\\x[0-9a-f]{2})*)"')
 PRINTED = 1
@@ -65,15 +65,18 @@ class Ended(NamedTuple):
     status: int
 
 
-Op = Union[Write, Cut, Named, Removed, Renamed, Synced, SyncedFolder, Said, Ended]
+Data = Union[Write, Cut]
+Naming = Union[Named, Removed, Renamed]
 NAMING = (Named, Removed, Renamed)
+Op = Union[Data, Naming, Synced, SyncedFolder, Said, Ended]
 
 
 def missing(folder: str) -> Optional[str]:
     """Why nothing can be recorded, or None."""
     if not shutil.which('strace'):
         return 'there is no strace'
-    tried = subprocess.run(['strace', '-o', os.path.join(folder, 'tried'), 'true'], stdout=subprocess.PIPE, stderr=subprocess.PIPE, check=False)
+    words = ['strace', '-o', os.path.join(folder, 'tried'), 'true']
+    tried = subprocess.run(words, stdout=subprocess.PIPE, stderr=subprocess.PIPE, check=False)
     return 'strace may not look at a process here' if tried.returncode else None
 
 
@@ -105,6 +108,10 @@ class Open:
         self.ino, self.appends, self.at = ino, appends, 0
 
 
+# What a descriptor is: a file or a folder of those that are looked at, standard output, or something else.
+Handle = Union[Open, SyncedFolder, str, None]
+
+
 class Recording:
     """What was there in a folder, and what commands, one after another, have done to it."""
 
@@ -119,7 +126,7 @@ class Recording:
             self.names[name] = len(self.names)
             self.data[self.names[name]] = bytearray(data)
         self.first = {name: (ino, bytes(self.data[ino])) for name, ino in self.names.items()}
-        self.handles: Dict[int, Union[None, str, Open, SyncedFolder]] = {}
+        self.handles: Dict[int, Handle] = {}
         self.counts: Dict[str, int] = {}
 
     def found(self) -> Dict[str, bytes]:
@@ -130,10 +137,12 @@ class Recording:
     def run(self, words: List[str], data: bytes = b'', killed_at: Optional[Tuple[str, int]] = None) -> int:
         """Runs a command that reads this data, killed at a call or not. Answers its status."""
         log, given = f'{self.folder}.log', f'{self.folder}.input'
-        kills = ['-e', f'inject={killed_at[0]}:signal=KILL:when={killed_at[1]}'] if killed_at else []
-        tracer = ['strace', '-f', '-xx', '-s', '100000000', '-o', log, '-e', 'signal=none', '-e', f'trace={",".join(CALLS)}', *kills]
+        options = ['-e', 'signal=none', '-e', f'trace={",".join(CALLS)}']
+        if killed_at:
+            options += ['-e', f'inject={killed_at[0]}:signal=KILL:when={killed_at[1]}']
         with open(write(given, data), 'rb') as reads:
-            ran = subprocess.run([*tracer, *words], cwd=self.folder, stdin=reads, stdout=subprocess.PIPE, stderr=subprocess.PIPE, check=False)
+            tracer, pipe = ['strace', '-f', '-xx', '-s', '100000000', '-o', log, *options], subprocess.PIPE
+            ran = subprocess.run([*tracer, *words], cwd=self.folder, stdin=reads, stdout=pipe, stderr=pipe, check=False)
         self.handles, self.counts = {0: None, 1: 'printed', 2: None}, {}
         for line in content(log).split(b'\n'):
             self.line(line)
@@ -180,7 +189,7 @@ class Recording:
             handles.pop(int(words[0]), None)
         elif name in ('dup', 'dup2', 'dup3') or name == 'fcntl' and b'F_DUPFD' in words[1]:
             handles[answer] = file
-        elif name in ('socket', 'accept4'):
+        elif name == 'socket':
             handles[answer] = None
         elif name == 'lseek' and isinstance(file, Open):
             file.at = answer
@@ -210,7 +219,7 @@ class Recording:
                 self.add(which, Cut(self.names[name], 0))
             self.handles[number] = Open(self.names[name], b'O_APPEND' in how)
 
-    def wrote(self, which: Tuple[str, int], file: Union[None, str, Open, SyncedFolder], data: bytes, at: Optional[int]) -> None:
+    def wrote(self, which: Tuple[str, int], file: Handle, data: bytes, at: Optional[int]) -> None:
         if isinstance(file, Open):
             begin = at if at is not None else len(self.data[file.ino]) if file.appends else file.at
             self.add(which, Write(file.ino, begin, data))
@@ -229,16 +238,3 @@ class Recording:
             self.add(which, Named(names[1], self.names[names[0]]))
         else:
             self.add(which, Renamed(names[0], names[1]))
-
-    def shown(self, place: int, names: Collection[str] = ()) -> str:
-        """The operation at a place, as a line."""
-        if place >= len(self.ops):
-            return 'the end'
-        op = self.ops[place]
-        of = {ino: name for name, (ino, _) in self.first.items()}
-        of.update({it.ino: it.name for it in self.ops if isinstance(it, Named) and it.ino not in of})
-        if isinstance(op, Write):
-            return f'{of[op.ino]}: {len(op.data)} bytes at {op.at}'
-        if isinstance(op, (Cut, Synced)):
-            return f'{of[op.ino]}: {type(op).__name__} {op[1]}'
-        return f'{type(op).__name__} {" ".join(map(str, op))}'
