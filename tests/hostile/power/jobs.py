@@ -139,6 +139,16 @@ class Makers:
         job.recording.run([PROGRAM, *job.again[0]], killed_at=call)
         return job.record()
 
+    def asked(self, call: Tuple[str, int]) -> Job:
+        """A replay that is killed before a call, and `gtids`, which answers what there is."""
+        name = f'gtids after a kill before {call[0]} {call[1]}'
+        job = Job(name, self.replayed(name, self.half), self.history, replay(self.stream))
+        job.recording.run([PROGRAM, *job.again[0]], killed_at=call)
+        job.recording.run([PROGRAM, 'gtids', '--db', 'F'])
+        place = self.history.index(read(job.folder))
+        job.ends = [0, place]
+        return job
+
     def long(self) -> Job:
         """A replay whose WAL file is begun anew while it is read. Each transaction takes the rows of the one before out."""
         def made(number: int) -> List[bytes]:
@@ -257,6 +267,7 @@ class Makers:
         calls = [call for call, op in zip(first.recording.calls, first.recording.ops) if isinstance(op, (Write, Synced))]
         for call in chance.sample(calls, kills):
             yield self.killed(call)
+            yield self.asked(call)
         if kills > 1:
             yield self.long()
         yield self.reopened()

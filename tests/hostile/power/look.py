@@ -141,7 +141,9 @@ class Job:
             if isinstance(op, Ended):
                 floor, ended = max(floor, self.ends[ended]), ended + 1
             elif isinstance(op, Said):
-                floor = max(floor, self.said)
+                sets = [executed for executed, _ in self.contents]
+                text = op.data.decode().strip()
+                floor = max(floor, sets.index(text) if text in sets else self.said)
             else:
                 floor = max(floor, self.told(op, disk))
             yield disk, floor
