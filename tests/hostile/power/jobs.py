@@ -14,7 +14,7 @@ from look import NOTHING, STATUS, TO, Abandoned, Content, Copied, Job, Reopened,
 from mrep import A, PROGRAM, Wrong, done, same, sqlite3, write
 from record import Recording, Synced, Write
 
-FEED, ASIDE = 'feed.json', 'feeds/feed.json'
+FEED, NEXT, ASIDE = 'feed.json', 'next.json', 'feeds/feed.json'
 # MySQL's greatest transaction number.
 LAST = 2 ** 63 - 2
 COLUMNS = b'shop\titems\tid\tint\tNULL\t\nshop\titems\tname\tvarchar(20)\tutf8mb4\t\n'
@@ -142,11 +142,12 @@ class Makers:
     def asked(self, call: Tuple[str, int]) -> Job:
         """A replay that is killed before a call, and `gtids`, which answers what there is."""
         name = f'gtids after a kill before {call[0]} {call[1]}'
-        job = Job(name, self.replayed(name, self.half), self.history, replay(self.stream))
+        words = ('--changes', FEED)
+        job = Job(name, self.replayed(name, self.half, *words), self.history, replay(self.stream, *words))
         job.recording.run([PROGRAM, *job.again[0]], killed_at=call)
         job.recording.run([PROGRAM, 'gtids', '--db', 'F'])
-        place = self.history.index(read(job.folder))
-        job.ends = [0, place]
+        count = self.history.index(read(job.folder))
+        job.ends, job.needs_syncs, job.may_be = [0, count], count > 4, (FEED,)
         return job
 
     def long(self) -> Job:
@@ -202,18 +203,18 @@ class Makers:
         job.data = self.copy
         return job.record()
 
-    def changed(self, command: str, *words: str, rows_left: bool = True) -> Job:
+    def changed(self, command: str, feed: str, *words: str, rows_left: bool = True) -> Job:
         """A command that executes A:9 in one commit, with a new feed."""
         last = (f'{A}:1-9', self.history[-1][1] if rows_left else '')
-        again = [command, '--db', 'F', '--changes', ASIDE, *words]
+        again = [command, '--db', 'F', '--changes', feed, *words]
         folder = self.replayed(command, self.stream, '--changes', FEED)
-        return Job(command, folder, [self.history[-1], last], again, opening(ASIDE)).feed(FEED, ASIDE).record()
+        return Job(command, folder, [self.history[-1], last], again, opening(feed)).feed(FEED, feed).record()
 
     def skip(self) -> Job:
-        return self.changed('skip', f'{A}:9')
+        return self.changed('skip', ASIDE, f'{A}:9')
 
     def clear(self) -> Job:
-        return self.changed('clear', '--gtid', f'{A}:9', '--at', f'{A}:1-8', 'shop.items', rows_left=False)
+        return self.changed('clear', NEXT, '--gtid', f'{A}:9', '--at', f'{A}:1-8', 'shop.items', rows_left=False)
 
     def adopt(self) -> Job:
         found = [self.history[-1], (f'{A}:1-9', self.history[-1][1])]
@@ -260,14 +261,12 @@ class Makers:
 
     def all(self, port: str, chance: random.Random, kills: int) -> Iterator[Job]:
         """The jobs, each recorded as it is asked for, with so many that begin with a kill before some call."""
-        first = self.replay()
-        yield first
-        yield self.replay_on()
+        for job, killed in ((self.replay(), self.killed), (self.replay_on(), self.asked)):
+            yield job
+            calls = [call for call, op in zip(job.recording.calls, job.recording.ops) if isinstance(op, (Write, Synced))]
+            for call in chance.sample(calls, kills):
+                yield killed(call)
         yield self.replay_aside()
-        calls = [call for call, op in zip(first.recording.calls, first.recording.ops) if isinstance(op, (Write, Synced))]
-        for call in chance.sample(calls, kills):
-            yield self.killed(call)
-            yield self.asked(call)
         if kills > 1:
             yield self.long()
         yield self.reopened()

@@ -91,6 +91,8 @@ class Job:
     data = b''
     # How many states are looked at, where they are large.
     most = 1 << 30
+    # Whether something is lost where nothing was synced.
+    needs_syncs = True
 
     def __init__(self, name: str, folder: str, found: List[Content], *again: List[str]) -> None:
         self.name, self.folder, self.contents, self.again = name, folder, found, again
