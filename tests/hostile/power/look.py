@@ -222,12 +222,12 @@ class Job:
 
     def is_read(self, folder: str, count: int, left: Left) -> None:
         """A reader from the beginning, and one that had read what there was, have each transaction once."""
-        for place, had in (('', []), (left.place, left.had)) if self.feeds else ():
-            got = [it[0]['gtid'] for it in had + self.used(folder, place)[0]]
-            want = [it[0]['gtid'] for it in self.wanted(count)]
-            same('the transactions of a reader' + (' that goes on' if place else ''), got, want)
-            if not place:
-                same('their changes', self.used(folder)[0], self.wanted(count))
+        places: List[Tuple[str, List[Changes]]] = [('', []), (left.place, left.had)] if self.feeds else []
+        for place, had in places:
+            found, want = had + self.used(folder, place)[0], self.wanted(count)
+            who = 'a reader that goes on' if place else 'a reader'
+            same(f'the transactions of {who}', [it[0]['gtid'] for it in found], [it[0]['gtid'] for it in want])
+            same(f'the changes of {who}', found, want)
 
 
 def lay(state: State, folder: str, folders: Collection[str] = ('.',)) -> None:
