@@ -236,8 +236,6 @@ def lay(state: State, folder: str, folders: Collection[str] = ('.',)) -> None:
     for name in sorted(folders):
         os.makedirs(os.path.join(folder, name), exist_ok=True)
     for name, (ino, data) in state.items():
-        if os.path.isabs(name):
-            raise Wrong(f'{name} is no file of the folder')
         path = os.path.join(folder, name)
         os.makedirs(os.path.dirname(path), exist_ok=True)
         if ino in made:
