@@ -1,0 +1,405 @@
+"""The rules of a reader of mrep's change feed: each transaction is used once.
+
+- The changes of a transaction are kept until its `commit`, and used then; at its `rollback` they are dropped.
+- At an `open`, those that are kept are used if its set has their GTID. Nothing is used before the first `open`, whose set has to
+  be in what was used, and nor may a later one have more.
+- A line that is cut, and what follows it up to an `open`, is dropped.
+- A line without its line feed is not there yet, and lines that no `open`, `commit` or `rollback` follows are read again from
+  the last one of these.
+
+A place is a text: the last line that was used, an `open`, `commit` or `rollback`, by its offsets and its digest, and the set of
+the transactions that were used. It belongs into the same commit as what is made of them. The set alone keeps a transaction
+from being used twice; the line spares reading from the beginning."""
+
+import gzip
+import hashlib
+import json
+import os
+import select
+import shutil
+import sys
+import tempfile
+import time
+from bisect import bisect_left, bisect_right
+from typing import IO, Any, Callable, Dict, Iterator, List, Optional, Tuple
+
+from .faults import RETRY, Fault
+
+# How each line of a feed begins.
+HEAD = b'{"type":'
+# The bytes of lines up to which the changes of a transaction are kept in memory, and how much is read at a time.
+LARGE, CHUNK = 1 << 20, 1 << 16
+# The seconds between two looks at a file that grows.
+LOOK = 0.2
+FORMS = ('hex', 'base64', 'utf8')
+
+# A line of the feed; of each source the first and last numbers of its intervals, ascending and apart; a part of a file.
+Item = Dict[str, Any]
+GtidSet = Dict[str, List[List[int]]]
+Span = Tuple[IO[bytes], int, int]
+
+scan = json.JSONDecoder().scan_once  # type: ignore[attr-defined]
+
+
+def read_set(printed: str) -> GtidSet:
+    """A printed set, or one GTID."""
+    found: GtidSet = {}
+    for item in filter(None, printed.split(',')):
+        source, *spans = item.split(':')
+        found[source] = [[int(number) for number in (span.split('-') * 2)[:2]] for span in spans]
+    return found
+
+
+def print_set(found: GtidSet) -> str:
+    return ','.join(':'.join([source, *(f'{lo}-{hi}' if lo < hi else f'{lo}' for lo, hi in found[source])]) for source in sorted(found))
+
+
+def has(found: GtidSet, other: GtidSet) -> bool:
+    """Whether a set has all of another one."""
+    for source, wanted in other.items():
+        spans = found.get(source, [])
+        for lo, hi in wanted:
+            at = bisect_right(spans, [lo, sys.maxsize]) - 1
+            if at < 0 or spans[at][1] < hi:
+                return False
+    return True
+
+
+def add(found: GtidSet, other: GtidSet) -> None:
+    for source, wanted in other.items():
+        spans = found.setdefault(source, [])
+        for lo, hi in wanted:
+            first = bisect_left(spans, [lo])
+            if first and spans[first - 1][1] >= lo - 1:
+                first -= 1
+            last = first
+            while last < len(spans) and spans[last][0] <= hi + 1:
+                last += 1
+            if first < last:
+                lo, hi = min(lo, spans[first][0]), max(hi, spans[last - 1][1])
+            spans[first:last] = [[lo, hi]]
+
+
+def parsed(line: bytes) -> Optional[Item]:
+    """What a line says; nothing for one that is cut."""
+    try:
+        text = line.decode()
+        item, end = scan(text, 0)
+    except (ValueError, StopIteration):
+        return None
+    return item if text[end:] == '\n' and isinstance(item, dict) and 'type' in item else None
+
+
+def digest(line: bytes) -> str:
+    return hashlib.sha256(line).hexdigest()
+
+
+def is_named(file: IO[bytes], name: str) -> bool:
+    """Whether the file still has its name, or nothing has: one that is renamed is written until the next one is made."""
+    try:
+        return os.path.samestat(os.stat(name), os.fstat(file.fileno()))
+    except FileNotFoundError:
+        return True
+
+
+def open_feed(name: str) -> IO[bytes]:
+    """The file of a name, unpacked if it is one of gzip. It has to be a feed: its first line begins as one, and may be cut or
+    have zeros."""
+    try:
+        file: IO[bytes] = open(name, 'rb')
+        if os.pread(file.fileno(), 2, 0) == b'\x1f\x8b':
+            unpacked = tempfile.TemporaryFile()
+            with file, gzip.open(file) as packed:
+                shutil.copyfileobj(packed, unpacked)
+            unpacked.flush()
+            file = unpacked
+        first = os.pread(file.fileno(), len(HEAD), 0).split(b'\n')[0]
+    except OSError as error:
+        raise Fault(f'{name}: {error.strerror or error}', RETRY) from error
+    if any(byte not in (0, want) for byte, want in zip(first, HEAD)):
+        raise Fault(f'{name}: it is no change feed of mrep')
+    return file
+
+
+def lines_of(span: Span) -> Iterator[bytes]:
+    """The lines of a part of a file, which may be read elsewhere meanwhile."""
+    file, at, end = span
+    parts: List[bytes] = []
+    while at < end:
+        data = os.pread(file.fileno(), min(CHUNK, end - at), at)
+        if not data:
+            raise Fault('a file of the feed has become shorter while it was read: start again')
+        at += len(data)
+        *lines, rest = data.split(b'\n')
+        for line in lines:
+            yield b''.join([*parts, line, b'\n'])
+            parts = []
+        parts.append(rest)
+
+
+class Kept:
+    """Changes of a transaction that has not ended: as they are while they are small, otherwise where their lines stand."""
+
+    def __init__(self, gtid: str = '') -> None:
+        self.gtid, self.count, self.size, self.is_in_order = gtid, 0, 0, True
+        self.items: List[Item] = []
+        self.spans: List[Span] = []
+
+    def copy(self) -> 'Kept':
+        made = Kept(self.gtid)
+        made.count, made.size, made.is_in_order = self.count, self.size, self.is_in_order
+        made.items, made.spans = self.items[:], self.spans[:]
+        return made
+
+    def add(self, item: Item, file: IO[bytes], begin: int, end: int) -> None:
+        if item.get('n', self.count) != self.count:
+            self.is_in_order = False
+        self.count += 1
+        self.size += end - begin
+        if self.spans and self.spans[-1][0] is file and self.spans[-1][2] == begin:
+            self.spans[-1] = (file, self.spans[-1][1], end)
+        else:
+            self.spans.append((file, begin, end))
+        if self.size <= LARGE:
+            self.items.append(item)
+        else:
+            self.items = []
+
+    def __iter__(self) -> Iterator[Item]:
+        if self.size <= LARGE:
+            yield from self.items
+            return
+        for span in self.spans:
+            for line in lines_of(span):
+                item = parsed(line)
+                if item is None or item.get('gtid') != self.gtid:
+                    raise Fault('a file of the feed has changed while it was read: start again', RETRY)
+                yield item
+
+
+NOTHING = Kept()
+
+
+class Transaction:
+    """What is used at an `open`, `commit` or `rollback`: the changes of a transaction, or none. A large one is read again each
+    time that its changes are asked for, and only until the next one is asked of the reader."""
+
+    __slots__ = ('adds', 'commit', 'form', 'kept', 'end')
+
+    def __init__(self, adds: List[str], commit: Item, form: str, kept: Kept) -> None:
+        # What is added to the set; the line of the end, where it is a `commit`; the form of bytes; the last line by its offsets.
+        self.adds, self.commit, self.form, self.kept = adds, commit, form, kept
+        self.end: Tuple[int, int, bytes] = (0, 0, b'')
+
+    def __iter__(self) -> Iterator[Item]:
+        return iter(self.kept)
+
+    def __len__(self) -> int:
+        return self.kept.count
+
+
+# That nothing more has come.
+IDLE = Transaction([], {}, '', NOTHING)
+
+
+def whole(kept: Kept, item: Item) -> Kept:
+    """The changes of a transaction that is used, in their places and as many as its `commit` says."""
+    found = kept.count if kept.gtid == item['gtid'] else 0
+    wanted = item.get('changes', found)
+    if found and not kept.is_in_order or wanted != found:
+        raise Fault(f'a part of the feed is missing: transaction {item["gtid"]} has {found} changes'
+                    + (f' of {wanted}' if wanted != found else ', which are not numbered 0, 1, 2 and so on')
+                    + ': give all files of the feed, the oldest first')
+    return kept if found else NOTHING
+
+
+def place_text(last: Tuple[int, int, str], used: GtidSet, form: str) -> str:
+    return json.dumps({'last': last, 'used': print_set(used), **({'bytes': form} if form else {})})
+
+
+def digested(end: Tuple[int, int, bytes]) -> Tuple[int, int, str]:
+    """A last line with its digest; none of a pipe."""
+    begin, after, line = end
+    return (begin, after, digest(line)) if after else (0, 0, '')
+
+
+class Reader:
+    """A reader that goes on at a place, or begins, at ''. With `needs_form` each `open` has to say the form of bytes."""
+
+    def __init__(self, place: str, adopt: bool = False, needs_form: bool = False) -> None:
+        found = json.loads(place or '{}')
+        begin, end, line = found.get('last', (0, 0, ''))
+        self.last: Tuple[int, int, str] = (begin, end, line)
+        self.used, self.form = read_set(found.get('used', '')), found.get('bytes', '')
+        self.adopt, self.needs_form = adopt, needs_form
+        # Where the reading of a file begins, and the changes before it whose transaction has not ended.
+        self.begin, self.kept = 0, NOTHING
+        # The changes that are kept now, whether a line was cut, and whether an `open` has come.
+        self.now, self.is_cut, self.is_opened = NOTHING, False, False
+        # The last line, of which the digest is made once it is asked for.
+        self.end: Optional[Tuple[int, int, bytes]] = None
+        # What hears of a line that is cut: the file, and its offset.
+        self.on_cut: Callable[[str, int], None] = lambda name, at: None
+
+    def place(self) -> str:
+        if self.end:
+            self.last, self.end = digested(self.end), None
+        return place_text(self.last, self.used, self.form)
+
+    def is_in(self, file: IO[bytes]) -> bool:
+        """Whether a file has the last line that was used."""
+        begin, end, line = self.last
+        return end > 0 and digest(os.pread(file.fileno(), end - begin, begin)) == line
+
+    def transactions(self, names: List[str], follow: bool = False, idle: bool = False) -> Iterator[Transaction]:
+        """The transactions of the files, or of standard input as `-`, also those without changes; `place` is then the place
+        after it. With `idle` there is also IDLE each time that nothing more has come."""
+        if names == ['-']:
+            yield from self.piped(sys.stdin.fileno(), idle)
+            return
+        names = self.unread(names, follow)
+        while names:
+            while follow and len(names) == 1 and not os.path.exists(names[0]):
+                time.sleep(LOOK)
+            # It is closed once nothing is kept of it.
+            file, goes_on = open_feed(names[0]), True
+            while goes_on:
+                # One that was renamed is written until the next one is there.
+                goes_on = follow and (len(names) == 1 and is_named(file, names[0]) or len(names) == 2 and not os.path.exists(names[1]))
+                yield from self.read(file, names[0])
+                if goes_on:
+                    if idle:
+                        yield IDLE
+                    time.sleep(LOOK)
+            self.begin, self.kept = 0, self.now
+            if len(names) > 1 or not follow:
+                del names[0]
+
+    def unread(self, names: List[str], follow: bool) -> List[str]:
+        """The files from the one that was read last; all, where that is not there any more. The last one may not be there yet
+        where it is followed."""
+        self.place()
+        self.begin, self.kept = self.last[1], NOTHING
+        for at in reversed(range(len(names))):
+            if follow and at == len(names) - 1 and not os.path.exists(names[at]):
+                continue
+            with open_feed(names[at]) as file:
+                if self.is_in(file):
+                    self.is_opened = True
+                    return names[at:]
+        self.begin = 0
+        return names[:]
+
+    def read(self, file: IO[bytes], name: str = 'the feed') -> Iterator[Transaction]:
+        """Reads a file as far as it is written. The changes at the end whose transaction has not ended are then in `now`. They
+        are read again the next time, since mrep cuts them off where it cannot write the others."""
+        self.place()
+        if self.begin and not self.is_in(file):
+            self.begin = 0  # A power failure has left less of it than was read.
+        at, self.now, self.is_cut = self.begin, self.kept.copy(), False
+        # With a buffer of its own, which has nothing that was cut off.
+        with open(os.dup(file.fileno()), 'rb') as lines:
+            lines.seek(at)
+            for line in lines:
+                if not line.endswith(b'\n'):
+                    break
+                begin, at = at, at + len(line)
+                used = self.take(line, begin, at, file, name)
+                if used is not None:
+                    self.begin, self.kept, self.end = at, NOTHING, (begin, at, line)
+                    used.end = self.end
+                    yield used
+
+    def piped(self, descriptor: int, idle: bool) -> Iterator[Transaction]:
+        """Reads a pipe to its end. Its lines are also in a file without a name, for what is large."""
+        file, at = tempfile.TemporaryFile(), 0
+        for line in lines_as_they_come(descriptor):
+            if line is None:
+                if idle:
+                    yield IDLE
+                continue
+            file.write(line)
+            begin, at = at, at + len(line)
+            used = self.take(line, begin, at, file, 'the feed')
+            if used is not None:
+                file.flush()
+                self.last = (0, 0, '')
+                yield used
+                if at > LARGE:
+                    file.seek(0)
+                    at = file.truncate()
+
+    def take(self, line: bytes, begin: int, end: int, file: IO[bytes], name: str) -> Optional[Transaction]:
+        """Takes a line. Returns what is used at it, if it is the end of something."""
+        item = parsed(line)
+        if item is None:
+            if not self.is_cut:
+                self.on_cut(name, begin)
+            self.is_cut = True
+            return None
+        kind = item['type']
+        if self.is_cut and kind != 'open':
+            return None
+        if kind in ('insert', 'update', 'delete', 'skip'):
+            if self.now.gtid != item['gtid']:
+                self.now = Kept(item['gtid'])
+            if kind != 'skip':
+                self.now.add(item, file, begin, end)
+            return None
+        if kind == 'open':
+            used = self.opened(item)
+        elif kind in ('commit', 'rollback'):
+            used = self.ended(item)
+        else:
+            raise Fault(f'{name}: a line of the type {kind} at {begin}, which is not known here: a later version is needed')
+        self.now, self.is_cut = NOTHING, False
+        return used
+
+    def ended(self, item: Item) -> Transaction:
+        """What is used at a `commit` or a `rollback`."""
+        gtid: str = item['gtid']
+        number = read_set(gtid)
+        if item['type'] == 'rollback' or has(self.used, number):
+            return Transaction([], {}, self.form, NOTHING)
+        if not self.is_opened:
+            raise Fault(f'the feed begins with the transaction {gtid} and not with an open: a part before it is missing: '
+                        'give all files of the feed, the oldest first')
+        kept = whole(self.now, item)
+        add(self.used, number)
+        return Transaction([gtid], item, self.form, kept)
+
+    def opened(self, item: Item) -> Transaction:
+        """What is used at an `open`. Its set has nothing else that was not used."""
+        executed, gtid = read_set(item['executed']), self.now.gtid
+        is_done = self.is_opened and gtid and has(executed, read_set(gtid))
+        used = self.ended({'type': 'commit', 'gtid': gtid}) if is_done else Transaction([], {}, self.form, NOTHING)
+        if not has(self.used, executed):
+            if not self.adopt:
+                raise Fault(f'the database has {item["executed"]}, and its feed gave {print_set(self.used)}')
+            add(self.used, executed)
+            used.adds.append(item['executed'])
+            self.adopt = False
+        self.is_opened = True
+        self.form = item.get('bytes', '')
+        if self.needs_form and self.form not in FORMS:
+            raise Fault('the feed does not say the form of its bytes: it was written by an older mrep. Let this one write a new file'
+                        if not self.form else f'the feed has bytes in the form {self.form}, which is not known here')
+        return used
+
+
+def lines_as_they_come(descriptor: int) -> Iterator[Optional[bytes]]:
+    """The lines of a pipe, and None where nothing more has come for a while. What has no line feed at the end is dropped."""
+    ready, parts = select.poll(), [b'']
+    ready.register(descriptor, select.POLLIN)
+    while True:
+        if not ready.poll(LOOK * 1000):
+            yield None
+            continue
+        data = os.read(descriptor, CHUNK)
+        if not data:
+            return
+        *lines, rest = data.split(b'\n')
+        for line in lines:
+            yield b''.join([*parts, line, b'\n'])
+            parts = []
+        parts.append(rest)
