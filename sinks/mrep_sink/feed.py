@@ -31,6 +31,7 @@ HEAD = b'{"type":'
 LARGE, CHUNK = 1 << 20, 1 << 16
 # The seconds between two looks at a file that grows.
 LOOK = 0.2
+CHANGES = frozenset(('insert', 'update', 'delete', 'skip'))
 FORMS = ('hex', 'base64', 'utf8')
 
 # A line of the feed; of each source the first and last numbers of its intervals, ascending and apart; a part of a file.
@@ -57,7 +58,9 @@ def print_set(found: GtidSet) -> str:
 def has(found: GtidSet, other: GtidSet) -> bool:
     """Whether a set has all of another one."""
     for source, wanted in other.items():
-        spans = found.get(source, [])
+        spans = found.get(source)
+        if not spans:
+            return not wanted
         for lo, hi in wanted:
             at = bisect_right(spans, [lo, sys.maxsize]) - 1
             if at < 0 or spans[at][1] < hi:
@@ -69,6 +72,9 @@ def add(found: GtidSet, other: GtidSet) -> None:
     for source, wanted in other.items():
         spans = found.setdefault(source, [])
         for lo, hi in wanted:
+            if spans and spans[-1][1] == lo - 1:
+                spans[-1][1] = hi
+                continue
             first = bisect_left(spans, [lo])
             if first and spans[first - 1][1] >= lo - 1:
                 first -= 1
@@ -81,13 +87,13 @@ def add(found: GtidSet, other: GtidSet) -> None:
 
 
 def parsed(line: bytes) -> Optional[Item]:
-    """What a line says; nothing for one that is cut."""
+    """What a line with its line feed says; nothing for one that is cut."""
     try:
         text = line.decode()
         item, end = scan(text, 0)
     except (ValueError, StopIteration):
         return None
-    return item if text[end:] == '\n' and isinstance(item, dict) and 'type' in item else None
+    return item if end == len(text) - 1 and isinstance(item, dict) and 'type' in item else None
 
 
 def digest(line: bytes) -> str:
@@ -152,11 +158,12 @@ class Kept:
         return made
 
     def add(self, item: Item, file: IO[bytes], begin: int, end: int) -> None:
-        if item.get('n', self.count) != self.count:
+        count = self.count
+        if item.get('n', count) != count:
             self.is_in_order = False
-        self.count += 1
+        self.count = count + 1
         self.size += end - begin
-        if self.spans and self.spans[-1][0] is file and self.spans[-1][2] == begin:
+        if count and self.spans[-1][2] == begin and self.spans[-1][0] is file:
             self.spans[-1] = (file, self.spans[-1][1], end)
         else:
             self.spans.append((file, begin, end))
@@ -184,11 +191,12 @@ class Transaction:
     """What is used at an `open`, `commit` or `rollback`: the changes of a transaction, or none. A large one is read again each
     time that its changes are asked for, and only until the next one is asked of the reader."""
 
-    __slots__ = ('adds', 'commit', 'form', 'kept', 'end')
+    __slots__ = ('adds', 'commit', 'form', 'next_form', 'kept', 'end')
 
-    def __init__(self, adds: List[str], commit: Item, form: str, kept: Kept) -> None:
-        # What is added to the set; the line of the end, where it is a `commit`; the form of bytes; the last line by its offsets.
-        self.adds, self.commit, self.form, self.kept = adds, commit, form, kept
+    def __init__(self, adds: List[GtidSet], commit: Item, form: str, kept: Kept) -> None:
+        # What is added to the set; the line of the end, where it is a `commit`; the form of bytes, and that of what follows; the
+        # last line with its offsets.
+        self.adds, self.commit, self.form, self.next_form, self.kept = adds, commit, form, form, kept
         self.end: Tuple[int, int, bytes] = (0, 0, b'')
 
     def __iter__(self) -> Iterator[Item]:
@@ -340,7 +348,7 @@ class Reader:
         kind = item['type']
         if self.is_cut and kind != 'open':
             return None
-        if kind in ('insert', 'update', 'delete', 'skip'):
+        if kind in CHANGES:
             if self.now.gtid != item['gtid']:
                 self.now = Kept(item['gtid'])
             if kind != 'skip':
@@ -366,7 +374,7 @@ class Reader:
                         'give all files of the feed, the oldest first')
         kept = whole(self.now, item)
         add(self.used, number)
-        return Transaction([gtid], item, self.form, kept)
+        return Transaction([number], item, self.form, kept)
 
     def opened(self, item: Item) -> Transaction:
         """What is used at an `open`. Its set has nothing else that was not used."""
@@ -377,10 +385,10 @@ class Reader:
             if not self.adopt:
                 raise Fault(f'the database has {item["executed"]}, and its feed gave {print_set(self.used)}')
             add(self.used, executed)
-            used.adds.append(item['executed'])
+            used.adds.append(executed)
             self.adopt = False
         self.is_opened = True
-        self.form = item.get('bytes', '')
+        self.form = used.next_form = item.get('bytes', '')
         if self.needs_form and self.form not in FORMS:
             raise Fault('the feed does not say the form of its bytes: it was written by an older mrep. Let this one write a new file'
                         if not self.form else f'the feed has bytes in the form {self.form}, which is not known here')
