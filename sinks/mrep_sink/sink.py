@@ -3,14 +3,14 @@
 import time
 from typing import Any, Callable, Dict, Generic, List, NoReturn, Optional, Tuple, TypeVar
 
-from .description import Table
+from .description import Table, written
 from .faults import Fault, shown
 from .feed import IDLE, LARGE, Item, Reader, Transaction, add, digested, place_text, print_set, read_set
 from .options import Options
 from .report import Report
 
-# How many changes are put together at most, and how many bytes of lines.
-RUN, RUN_BYTES = 500, 1 << 20
+# How many bytes of lines are put together at most.
+RUN_BYTES = 1 << 20
 
 Place = Tuple[str, str]
 
@@ -24,6 +24,8 @@ class Target:
 
     def __init__(self, table: Table) -> None:
         self.table, self.title = table, table.title
+        # What it was made with.
+        self.description = '\n'.join(table.lines)
         # Makes the values of a row of the feed.
         self.values: Callable[[Dict[str, Any], str], List[Any]] = table.values
 
@@ -45,6 +47,9 @@ class Sink:
 class SqlSink(Sink, Generic[T]):
     """A sink of tables."""
 
+    # How many changes are put together at most, and what messages call the sink.
+    most, where = 500, ''
+
     def __init__(self, described: Dict[Tuple[str, str], Table], options: Options) -> None:
         self.described, self.options = described, options
         self.targets: Dict[Tuple[str, str], T] = {}
@@ -59,7 +64,7 @@ class SqlSink(Sink, Generic[T]):
         kind = ''
         entries: List[Entry] = []
         for transaction in batch:
-            most = 1 if is_careful else max(1, min(RUN, RUN_BYTES * len(transaction) // (transaction.kept.size + 1)))
+            most = 1 if is_careful else max(1, min(self.most, RUN_BYTES * len(transaction) // (transaction.kept.size + 1)))
             committed, form = transaction.commit.get('committed_us'), transaction.form
             for change in transaction:
                 wanted = self.targets.get((change['schema'], change['table']))
@@ -70,12 +75,31 @@ class SqlSink(Sink, Generic[T]):
                     if target and entries:
                         self.flush(target, kind, entries)
                     target, kind, entries = wanted, change['type'], []
-                if tuple(change.get('key', ())) != wanted.table.key_names:
-                    raise Fault(wanted.table.unfit('the feed has another key'))
                 before, after = change.get('before'), change.get('after')
                 entries.append((before and wanted.values(before, form), after and wanted.values(after, form), change, committed))
+                if tuple(change.get('key', ())) != wanted.table.key_names:
+                    raise Fault(wanted.table.unfit('the feed has another key'))
         if target and entries:
             self.flush(target, kind, entries)
+
+    def others(self, name: str, has_history: bool, made: Dict[Tuple[str, str], str]) -> List[T]:
+        """The tables that were made with another description. Other tables than those that were made are refused."""
+        if name != self.options.name:
+            raise Fault(f'{self.where}: it is the sink of the feed {name}, and not of {self.options.name}: --name {name}')
+        if has_history and not self.options.history:
+            raise Fault(f'{self.where}: it has a history, which would have a gap: give --history')
+        for place in sorted({*made, *self.targets}):
+            title = '.'.join(map(written, place))
+            if place not in self.targets:
+                raise Fault(f'{self.where}: it has the table {title}, whose changes would be lost: name it by --only too')
+            if place not in made:
+                raise Fault(f'{self.where}: it was made without the table {title}, whose rows from before are missing: leave it out by --only, '
+                            'or begin a new sink')
+        return [target for place, target in self.targets.items() if made[place] != target.description]
+
+    def has_rows(self, target: T) -> NoReturn:
+        raise Fault(f'{target.title}: it has rows of another description: give the older one until they are gone from the feed, as by '
+                    '`mrep clear --changes`, or begin a new sink')
 
     def leave_out(self, change: Item) -> None:
         """A change of a table that is not wanted. Without `--only` all are."""

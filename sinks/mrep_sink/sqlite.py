@@ -4,9 +4,9 @@ import os
 import sqlite3
 from typing import Any, Dict, Iterable, List, Optional, Tuple
 
-from .description import INTEGERS, KNOWN, MEMBERS, REALS, TEXTS, CHARACTERS, Column, Table, digest_of, written
-from .faults import ACT, RETRY, USAGE, Fault
-from .feed import Item, Transaction, place_text, read_set
+from .description import CHARACTERS, INTEGERS, MEMBERS, REALS, TEXTS, Column, Table, digest_of
+from .faults import RETRY, USAGE, Fault
+from .feed import Transaction, place_text, read_set
 from .options import Options
 from .sink import Entry, Place, SqlSink, Target
 
@@ -115,6 +115,7 @@ class SqliteSink(SqlSink[SqliteTable]):
 
     def __init__(self, described: Dict[Tuple[str, str], Table], wanted: Dict[Tuple[str, str], Table], options: Options) -> None:
         super().__init__(described, options)
+        self.where = options.to
         if sqlite3.sqlite_version_info < LEAST_VERSION:
             raise Fault(f'this python3 has SQLite {sqlite3.sqlite_version}, and 3.37 or later is needed')
         check_names(wanted.values(), options.history)
@@ -167,7 +168,7 @@ class SqliteSink(SqlSink[SqliteTable]):
         if not is_there:
             self.base.execute(target.creation)
         table = target.table
-        self.base.execute('INSERT OR REPLACE INTO mrep_columns VALUES (?, ?, ?)', (table.schema, table.name, '\n'.join(table.lines)))
+        self.base.execute('INSERT OR REPLACE INTO mrep_columns VALUES (?, ?, ?)', (table.schema, table.name, target.description))
         if not table.keys:
             self.base.execute(target.rows_creation)
             rows = self.base.execute(f'SELECT {target.rowid}, * FROM {quoted(target.name)}')
@@ -204,20 +205,9 @@ class SqliteSink(SqlSink[SqliteTable]):
     def begin_again(self) -> None:
         """Goes on with a file of a sink. A table with another description is made anew while it has no rows."""
         name, has_history = self.base.execute('SELECT name, history FROM mrep_sink').fetchone()
-        if name != self.options.name:
-            raise Fault(f'{self.options.to}: it is the sink of the feed {name}, and not of {self.options.name}: --name {name}')
-        if has_history and not self.options.history:
-            raise Fault(f'{self.options.to}: it has a history, which would have a gap: give --history')
         made = {(schema, table): text for schema, table, text in self.base.execute('SELECT * FROM mrep_columns')}
-        for place in sorted({*made, *self.targets}):
-            title = '.'.join(map(written, place))
-            if place not in self.targets:
-                raise Fault(f'{self.options.to}: it has the table {title}, whose changes would be lost: name it by --only too')
-            if place not in made:
-                raise Fault(f'{self.options.to}: it was made without the table {title}, whose rows from before are missing: leave it out by --only, '
-                            'or begin anew with a file of `mrep export --place`')
-            if made[place] != '\n'.join(self.targets[place].table.lines):
-                self.make_anew(self.targets[place], has_history)
+        for target in self.others(name, bool(has_history), made):
+            self.make_anew(target, has_history)
         if self.options.history and not has_history:
             for target in self.targets.values():
                 self.make_history(target)
@@ -226,8 +216,7 @@ class SqliteSink(SqlSink[SqliteTable]):
     def make_anew(self, target: SqliteTable, has_history: bool) -> None:
         """Makes a table with another description, if it has no rows. Its history is kept beside the new one."""
         if self.base.execute(f'{target.selection} LIMIT 1').fetchone():
-            raise Fault(f'{target.title}: it has rows of another description: give the older one until they are gone from the feed, as by '
-                        '`mrep clear --changes`, or begin anew with a file of `mrep export --place`')
+            self.has_rows(target)
         self.base.execute(f'DROP TABLE {quoted(target.name)}')
         self.base.execute(f'DROP TABLE IF EXISTS {quoted(target.rows_name)}')
         if has_history:

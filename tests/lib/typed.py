@@ -2,6 +2,7 @@
 (tests/program/typed/data.tar.xz): for each NAME the stream NAME.bin, the description NAME.columns, and for each table what
 `mysql -BN --binary-as-hex` printed of it, its lines sorted by bytes."""
 
+import collections
 import os
 import tarfile
 
@@ -10,6 +11,15 @@ from mrep import ROOT, done, fail
 NAMES = ('bytes', 'ints', 'lists', 'mixed', 'names', 'numbers', 'shapes', 'texts', 'times')
 # Tables with texts of character sets that are not known here.
 BYTES = {f'words.{kind}_{name}' for kind in ('every', 't') for name in ('gbk', 'koi8r', 'sjis')}
+
+# The types of a description.
+INTEGERS = ('tinyint', 'smallint', 'mediumint', 'int', 'bigint', 'year', 'bit')
+REALS = ('float', 'double')
+TEXTS = ('decimal', 'date', 'time', 'datetime', 'timestamp')
+CHARACTERS = ('char', 'varchar', 'tinytext', 'text', 'mediumtext', 'longtext')
+MEMBERS = ('enum', 'set')
+KNOWN = ('utf8mb4', 'utf8mb3', 'ascii', 'latin1', 'ucs2', 'utf16', 'utf16le', 'utf32')
+LARGEST = 2 ** 63 - 1
 
 
 def plain(field):
@@ -39,6 +49,51 @@ def ran(*words, status=0):
     if got.returncode != status:
         fail(f'{" ".join(words)} ends with {got.returncode}: {got.stderr.decode()}')
     return got.stdout, got.stderr
+
+
+def word(kind):
+    """The name of a type."""
+    return kind.split('(')[0].split(' ')[0]
+
+
+def type_of(kind, character_set):
+    """The type of a column in SQLite."""
+    name = word(kind)
+    if name in REALS or name == 'bigint' and 'unsigned' in kind or kind == 'bit(64)':
+        return 'ANY'
+    if name in INTEGERS:
+        return 'INTEGER'
+    if name in TEXTS or name in CHARACTERS and character_set in KNOWN or name in MEMBERS and character_set != 'NULL':
+        return 'TEXT'
+    return 'BLOB'
+
+
+def value_of(kind, character_set, field):
+    """The value in SQLite of a field of the client's lines; a FLOAT or a DOUBLE is whether there is one."""
+    if field == b'NULL':
+        return None
+    name = word(kind)
+    if name in REALS:
+        return 'real'
+    if name in INTEGERS:
+        number = int(field, 16) if name == 'bit' else int(field)
+        return number if number <= LARGEST else str(number)
+    if name in TEXTS or character_set != 'NULL':
+        return plain(field).decode()
+    return bytes.fromhex(field[2:].decode())
+
+
+def comparable(value):
+    """A value with its type: a text NULL is NULL, since the client's lines do not tell them apart."""
+    return repr(None if value == 'NULL' else value)
+
+
+def counted(rows):
+    return collections.Counter(tuple(comparable(value) for value in row) for row in rows)
+
+
+def quoted(name):
+    return '"' + name.replace('"', '""') + '"'
 
 
 class Data:
