@@ -16,6 +16,9 @@ Tables = Dict[Tuple[str, str], Table]
 
 def sink_of(options: Options, described: Tables, wanted: Tables, report: Report) -> Sink:
     """The sink that the words name."""
+    if options.kind == 'postgres':
+        from .postgres import PostgresSink
+        return PostgresSink(described, wanted, options, report)
     from .sqlite import SqliteSink
     return SqliteSink(described, wanted, options)
 
