@@ -2,7 +2,6 @@
 and the new place are one transaction of Kafka."""
 
 import json
-import sys
 import time
 from typing import Any, Dict, List, Optional, Tuple
 
@@ -13,8 +12,8 @@ except ImportError as missing:
     from .faults import USAGE, Fault
     raise Fault('this python3 has no confluent_kafka, which Kafka needs: python3-confluent-kafka of Debian, or confluent-kafka of PyPI', USAGE) from missing
 
-from .description import Table, digest_of
-from .faults import ACT, RETRY, USAGE, Fault, shown
+from .description import Table
+from .faults import RETRY, USAGE, Fault
 from .feed import Item, Transaction, place_text, print_set, read_set
 from .options import Options
 from .report import Report
@@ -36,6 +35,10 @@ def escaped(name: str) -> str:
 
 def compact(value: Any) -> bytes:
     return json.dumps(value, ensure_ascii=False, separators=(',', ':')).encode()
+
+
+def key_text(table: Table, row: Optional[Dict[str, Any]]) -> Optional[bytes]:
+    return compact({name: row[name] for name in table.key_names}) if row and table.keys else None
 
 
 class Topic(Target):
@@ -225,8 +228,7 @@ class KafkaSink(SqlSink[Topic]):
     def send_change(self, target: Topic, change: Item, headers: Headers, transaction: Transaction) -> None:
         """The messages of a change. One that changes the key is a delete and an insert, each of which names the other one."""
         table, before, after = target.table, change.get('before'), change.get('after')
-        key_of = lambda row: compact({name: row[name] for name in table.key_names}) if row and table.keys else None
-        old, new = key_of(before), key_of(after)
+        old, new = key_text(table, before), key_text(table, after)
         if old and new and old != new:
             self.produce(target.topic, old, self.value({**change, 'type': 'delete'}, before, None, transaction), [*headers, ('new_key', new)])
             self.produce(target.topic, old, None, [*headers, ('new_key', new)])

@@ -19,6 +19,9 @@ def sink_of(options: Options, described: Tables, wanted: Tables, report: Report)
     if options.kind == 'postgres':
         from .postgres import PostgresSink
         return PostgresSink(described, wanted, options, report)
+    if options.kind == 'kafka':
+        from .kafka import KafkaSink
+        return KafkaSink(described, wanted, options, report)
     from .sqlite import SqliteSink
     return SqliteSink(described, wanted, options)
 

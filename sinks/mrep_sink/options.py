@@ -73,7 +73,7 @@ def parser() -> Parser:
     add('--follow', action='store_true', help='reads on as the last file grows, and goes on to the new one of its name')
     add('--batch', metavar='N', type=int, default=1000, help='how many transactions a commit has at most (1000)')
     add('--adopt', action='store_true', help='takes the transactions of the next open for used that were in no file, once')
-    add('--name', metavar='NAME', default='mrep', help='the name of the feed, which the sink keeps (mrep); of Kafka also the transactional.id')
+    add('--name', metavar='NAME', help='the name of the feed, which the sink keeps (mrep); with kafka it is needed, and is the transactional.id')
     add('--history', action='store_true', help='keeps each change of each row in tables of their own (sqlite, postgres)')
     add('--fast', action='store_true', help='without a sync at each commit: a power failure may take the last ones, which come again (sqlite)')
     add('--as-text', metavar='SCHEMA.TABLE.COLUMN', action='append', default=[], help='a column whose values the type does not take, as a text (postgres)')
@@ -100,6 +100,9 @@ def parse(words: List[str]) -> Options:
         made.error('- is the only file of a feed where it is one')
     if options.follow and options.feed == ['-']:
         made.error('a pipe is read to its end: --follow is for files')
-    if not options.name or not options.name.isprintable() or len(options.name) > 200:
+    if options.kind == 'kafka' and not options.name:
+        made.error('--name NAME is needed, a transactional.id that no other program has')
+    options.name = options.name or 'mrep'
+    if not options.name.isprintable() or len(options.name) > 200:
         made.error('--name is no name: 1 to 200 characters that can be printed')
     return options

@@ -4,7 +4,7 @@ import time
 from typing import Any, Callable, Dict, Generic, List, NoReturn, Optional, Tuple, TypeVar
 
 from .description import Table, written
-from .faults import Fault, shown
+from .faults import ACT, Fault, shown
 from .feed import IDLE, LARGE, Item, Reader, Transaction, add, digested, place_text, print_set, read_set
 from .options import Options
 from .report import Report
@@ -150,11 +150,12 @@ class Committer:
     def commit(self, batch: List[Transaction]) -> None:
         try:
             self.write(batch, False)
-        except Fault:
+        except Fault as fault:
+            if fault.status != ACT:
+                raise
             self.used = read_set(self.sink.held[1])
             for transaction in batch:
                 self.write([transaction], True)
-            raise
 
     def write(self, batch: List[Transaction], is_careful: bool) -> None:
         for transaction in batch:
