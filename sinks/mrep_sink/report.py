@@ -19,7 +19,7 @@ class Report:
         self.transactions = self.changes = self.commits = 0
         self.ts: Optional[int] = None
         self.executed = self.end = ''
-        self.written = self.told = time.monotonic()
+        self.written = self.reported = time.monotonic()
         if path and os.path.lexists(path):
             if not os.path.isfile(path):
                 raise Fault(f'{path}: it is no regular file', USAGE)
@@ -40,8 +40,8 @@ class Report:
     def tick(self, is_end: bool = False) -> None:
         """Writes the status and the progress, at most once a second and at the end."""
         now = time.monotonic()
-        if self.progress and (now - self.told >= 1 or is_end):
-            self.told = now
+        if self.progress and (now - self.reported >= 1 or is_end):
+            self.reported = now
             self.say(f'{self.transactions} transactions, {self.changes} changes, {self.commits} commits')
         if self.path and (now - self.written >= 1 or is_end):
             self.written = now
