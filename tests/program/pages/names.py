@@ -18,7 +18,7 @@ import glob, os, re, sys
 
 root = os.path.abspath(sys.argv[1])
 CRATES = ['wire', 'greet', 'gtid', 'binlog', 'gather', 'columns', 'store', 'scripted_source', 'replica', 'first_copy', 'files', 'formats', 'payloads', 'metrics', 'typed_rows', 'command_line', 'reports', 'mrep']
-TOP = ('crates/', 'docs/', 'tests/', 'bench/', 'samples/', 'proxy/', 'specs/', 'src/', 'proofs/', 'must-fail/', '.ci/')
+TOP = ('crates/', 'docs/', 'tests/', 'bench/', 'samples/', 'proxy/', 'sinks/', 'specs/', 'src/', 'proofs/', 'must-fail/', '.ci/')
 bad = []
 
 
