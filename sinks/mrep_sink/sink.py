@@ -1,7 +1,7 @@
 """What sinks of SQL have in common: runs of changes, commits with the place in them, and how a batch that fails comes again."""
 
 import time
-from typing import Any, Callable, Dict, Generic, List, NoReturn, Optional, Tuple, TypeVar
+from typing import Any, Callable, Dict, Generic, Iterator, List, NoReturn, Optional, Tuple, TypeVar
 
 from .description import Table, written
 from .faults import ACT, Fault, shown
@@ -129,32 +129,37 @@ class Committer:
         reader.on_cut = lambda name, at: self.report.say(f'{name}: a line is cut at {at}: what follows is left out up to an open')
         batch: List[Transaction] = []
         size, begun = 0, time.monotonic()
-        try:
-            for transaction in reader.transactions(self.options.feed, self.options.follow, idle=True):
-                if transaction is not IDLE:
-                    batch.append(transaction)
-                    size += transaction.kept.size
-                    if len(batch) < self.options.batch and size < LARGE and time.monotonic() - begun < 1:
-                        continue
-                if batch:
-                    self.commit(batch)
-                batch, size, begun = [], 0, time.monotonic()
-                self.report.tick()
-        except Fault:
-            if batch:
-                self.commit(batch)
-            raise
-        if batch:
+        for transaction in self.taken(reader, batch):
+            if transaction is not IDLE:
+                batch.append(transaction)
+                size += transaction.kept.size
+                if len(batch) < self.options.batch and size < LARGE and time.monotonic() - begun < 1:
+                    continue
             self.commit(batch)
+            size, begun = 0, time.monotonic()
+            self.report.tick()
+        self.commit(batch)
+
+    def taken(self, reader: Reader, batch: List[Transaction]) -> Iterator[Transaction]:
+        """What the reader gives. What stands before a fault of the feed is committed."""
+        try:
+            yield from reader.transactions(self.options.feed, self.options.follow, idle=True)
+        except Fault:
+            self.commit(batch)
+            raise
 
     def commit(self, batch: List[Transaction]) -> None:
+        """Commits a batch, which is empty then. After a fault its transactions come one by one, up to the faulty one."""
+        given, batch[:] = batch[:], []
+        if not given:
+            return
         try:
-            self.write(batch, False)
+            self.write(given, False)
         except Fault as fault:
             if fault.status != ACT:
                 raise
             self.used = read_set(self.sink.held[1])
-            for transaction in batch:
+            for transaction in given:
                 self.write([transaction], True)
 
     def write(self, batch: List[Transaction], is_careful: bool) -> None:
