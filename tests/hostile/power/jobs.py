@@ -211,10 +211,10 @@ class Makers:
         return Job(command, folder, [self.history[-1], last], again, opening(feed)).feed(FEED, feed).record()
 
     def skip(self) -> Job:
-        return self.changed('skip', ASIDE, f'{A}:9')
+        return self.changed('skip', NEXT, f'{A}:9')
 
     def clear(self) -> Job:
-        return self.changed('clear', NEXT, '--gtid', f'{A}:9', '--at', f'{A}:1-8', 'shop.items', rows_left=False)
+        return self.changed('clear', ASIDE, '--gtid', f'{A}:9', '--at', f'{A}:1-8', 'shop.items', rows_left=False)
 
     def adopt(self) -> Job:
         found = [self.history[-1], (f'{A}:1-9', self.history[-1][1])]
