@@ -53,7 +53,7 @@ record:
 	tests/run --record
 
 power: build
-	tests/hostile/power/run "$(PROGRAM)" 400 1 prefix ext4 zeros posix bytes
+	tests/hostile/power/run "$(PROGRAM)" 100 1 prefix ext4 zeros posix bytes
 
 bench: build
 	bench/run
