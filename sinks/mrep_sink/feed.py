@@ -232,7 +232,7 @@ def digested(end: Tuple[int, int, bytes]) -> Tuple[int, int, str]:
 
 
 class Reader:
-    """A reader that goes on at a place, or begins, at ''. With `needs_form` each `open` has to say the form of bytes."""
+    """A reader that goes on at a place, or begins, at ''. With `needs_form` an `open` before changes has to say the form of bytes."""
 
     def __init__(self, place: str, adopt: bool = False, needs_form: bool = False) -> None:
         found = json.loads(place or '{}')
@@ -373,6 +373,8 @@ class Reader:
             raise Fault(f'the feed begins with the transaction {gtid} and not with an open: a part before it is missing: '
                         'give all files of the feed, the oldest first')
         kept = whole(self.now, item)
+        if self.needs_form and not self.form and kept.count:
+            raise Fault('the feed does not say the form of its bytes: it was written by an older mrep. Let this one write a new file')
         add(self.used, number)
         return Transaction([number], item, self.form, kept)
 
@@ -388,10 +390,10 @@ class Reader:
             used.adds.append(executed)
             self.adopt = False
         self.is_opened = True
+        # That of `skip`, which no changes follow, does not say it.
         self.form = used.next_form = item.get('bytes', '')
-        if self.needs_form and self.form not in FORMS:
-            raise Fault('the feed does not say the form of its bytes: it was written by an older mrep. Let this one write a new file'
-                        if not self.form else f'the feed has bytes in the form {self.form}, which is not known here')
+        if self.needs_form and self.form and self.form not in FORMS:
+            raise Fault(f'the feed has bytes in the form {self.form}, which is not known here')
         return used
 
 

@@ -15,6 +15,8 @@ from record import Ended, Op, Recording, Renamed, Said, Write
 
 sys.path.insert(0, os.path.join(ROOT, 'samples'))
 from read_feed import Reader, has, read_set
+from mrep_sink.faults import Fault
+from mrep_sink.feed import Transaction
 
 # The printed set and the lines of `mrep show` of a database; and a transaction as a reader of a feed has it.
 Content = Tuple[str, str]
@@ -68,9 +70,9 @@ def read(folder: str, db: str = 'F') -> Content:
 class Adopting(Reader):
     """A reader that takes for used what an `open` has more, as a load's set, and transactions without changes."""
 
-    def opened(self, item: dict, kept: Changes) -> Changes:
+    def opened(self, item: dict) -> Transaction:
         self.adopt = True
-        return super().opened(item, kept)
+        return super().opened(item)
 
 
 class Left(NamedTuple):
@@ -127,10 +129,10 @@ class Job:
         """What a reader that goes on at a place uses of the feeds, and its place then."""
         reader, names = self.reader(place), [os.path.join(folder, it) for it in self.feeds]
         try:
-            found = [changes for changes in reader.transactions([it for it in names if os.path.exists(it)]) if changes]
-            return found, reader.place()
-        except SystemExit as end:
-            raise Wrong(f'a reader of the feed ends: {end}') from None
+            found = [list(changes) for changes in reader.transactions([it for it in names if os.path.exists(it)])]
+            return [changes for changes in found if changes], reader.place()
+        except Fault as fault:
+            raise Wrong(f'a reader of the feed ends: {fault}') from None
 
     # While it is recorded
 
