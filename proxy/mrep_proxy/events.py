@@ -76,6 +76,8 @@ class Middle:
         # Whether BEGIN has come and not yet the end of its transaction; the GTID of the transaction.
         self.inside = False
         self.gtid: Optional[bytes] = None
+        # That of a statement that was passed on by itself, at which `mrep` ends.
+        self.passed: Optional[bytes] = None
         # Whether the transaction may end here: in a compressed one at its last event alone, before which all is compared.
         self.may_end = True
         # The log file and where the next event begins in it, by the source's own words.
@@ -224,6 +226,8 @@ class Middle:
                     self.output.payload(b'\0' + plain_query(event, word))
                 self._ended()
             return
+        elif not self.inside:
+            self.passed = self.gtid
         self.output.payload(b'\0' + event)
 
     def _format(self, header: bytes, content: Content) -> None:

@@ -16,7 +16,7 @@ from .listen import OK, UNKNOWN, Client, greeting, refusal
 from .logfiles import LogFiles
 from .options import Options, option_of, options_of, parse
 from .report import Report
-from .sets import GtidSet
+from .sets import GtidSet, printed
 from .sets import parse as parse_set
 from .source import Connection, Wait
 from .statements import Rules, Tables
@@ -191,9 +191,20 @@ def follow(options: Options, report: Report) -> Tuple[int, bool]:
     if fault:
         report.say(str(fault))
     report.ended(str(fault or ('mrep has ended' if is_gone else 'end of the log')))
-    status = child.end() or (fault.status if fault else 0)
+    ended = child.end()
+    if ended == ACT and middle.passed and path:
+        report_ways(middle.passed, path, report)
+    status = ended or (fault.status if fault else 0)
     is_done = status == 0 and (is_gone or options.once)
     return status, status not in (ACT, USAGE) and not is_done
+
+
+def report_ways(gtid: bytes, path: str, report: Report) -> None:
+    """Reports what can be done about a statement at which `mrep` has ended, where the database can be read."""
+    try:
+        report.ways(gtid, path, printed(read(path)[0]))
+    except Fault:
+        pass
 
 
 def enlarge(descriptor: int) -> None:

@@ -1,6 +1,7 @@
 """What the proxy says: lines on standard error, and counts in a status file for Prometheus."""
 
 import os
+import shlex
 import sys
 import time
 from typing import Optional
@@ -9,6 +10,10 @@ from uuid import UUID
 from .faults import RETRY, USAGE, Fault, printable_statement
 
 FIRST = '# HELP mrep_proxy_connected '
+
+
+def printed_gtid(gtid: bytes) -> str:
+    return f'{UUID(bytes=gtid[:16])}:{int.from_bytes(gtid[16:24], "little")}'
 
 
 class Report:
@@ -40,8 +45,14 @@ class Report:
     def skip(self, gtid: bytes, statement: bytes) -> None:
         """Reports a statement that is skipped."""
         self.skipped += 1
-        where = f'{UUID(bytes=gtid[:16])}:{int.from_bytes(gtid[16:24], "little")}'
-        self.say(f'skipped {where}: {printable_statement(statement)}')
+        self.say(f'skipped {printed_gtid(gtid)}: {printable_statement(statement)}')
+
+    def ways(self, gtid: bytes, path: str, executed: str) -> None:
+        """Reports what can be done about a statement at which `mrep` has ended, and which may be of a followed table."""
+        db, number = shlex.quote(path), printed_gtid(gtid)
+        self.say(f'to leave it out, if it changes no followed table: mrep skip --db {db} {number}')
+        self.say(f"if it alters or empties a followed table: mrep clear --db {db} --gtid {number} --at '{executed}' SCHEMA.TABLE, "
+                 'and then mrep load where the table has rows')
 
     def ended(self, reason: str) -> None:
         """A connection has ended."""
