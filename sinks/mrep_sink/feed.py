@@ -17,13 +17,14 @@ import json
 import os
 import select
 import shutil
+import stat
 import sys
 import tempfile
 import time
 from bisect import bisect_left, bisect_right
 from typing import IO, Any, Callable, Dict, Iterator, List, Optional, Tuple
 
-from .faults import RETRY, Fault
+from .faults import RETRY, USAGE, Fault
 
 # How each line of a feed begins.
 HEAD = b'{"type":'
@@ -112,6 +113,8 @@ def open_feed(name: str) -> IO[bytes]:
     """The file of a name, unpacked if it is one of gzip. It has to be a feed: its first line begins as one, and may be cut or
     have zeros."""
     try:
+        if stat.S_ISFIFO(os.stat(name).st_mode):
+            raise Fault(f'{name}: it is a pipe: let standard input be it, and give -', USAGE)
         file: IO[bytes] = open(name, 'rb')
         if os.pread(file.fileno(), 2, 0) == b'\x1f\x8b':
             unpacked = tempfile.TemporaryFile()
@@ -345,6 +348,13 @@ class Reader:
                 self.on_cut(name, begin)
             self.is_cut = True
             return None
+        try:
+            return self.take_item(item, begin, end, file, name)
+        except (AttributeError, KeyError, TypeError, ValueError) as error:
+            raise Fault(f'{name}: the line at {begin} is none of a feed of mrep') from error
+
+    def take_item(self, item: Item, begin: int, end: int, file: IO[bytes], name: str) -> Optional[Transaction]:
+        """Takes what a line says."""
         kind = item['type']
         if self.is_cut and kind != 'open':
             return None

@@ -57,8 +57,6 @@ class KafkaSink(SqlSink[Topic]):
         self.report, self.where = report, 'the place in Kafka'
         if not options.topics or {*options.topics} - ALLOWED - {'.'}:
             raise Fault('--topics PREFIX is needed: letters, digits, a point, _ and -', USAGE)
-        if options.history:
-            raise Fault('--history is for SQLite and PostgreSQL: a topic is one', USAGE)
         self.targets = {place: Topic(table, options.topics) for place, table in wanted.items()}
         self.place_topic, self.ends_topic = f'{options.topics}.{PLACE}', f'{options.topics}.{ENDS}'
         for target in self.targets.values():

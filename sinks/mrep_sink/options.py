@@ -22,6 +22,10 @@ KINDS = {'sqlite': ('FILE', 'an SQLite file: a new one, that of a sink, or one t
          'postgres': ('DSN', 'a connection string of PostgreSQL'), 'kafka': ('BROKERS', 'the addresses of Kafka, with commas between')}
 
 
+# Options that one kind has alone.
+OF_ONE_KIND = {'fast': 'sqlite', 'as_text': 'postgres', 'topics': 'kafka', 'new': 'kafka', 'unchecked': 'kafka', 'setting': 'kafka'}
+
+
 class Options(argparse.Namespace):
     """What the words say."""
 
@@ -100,6 +104,11 @@ def parse(words: List[str]) -> Options:
         made.error('- is the only file of a feed where it is one')
     if options.follow and options.feed == ['-']:
         made.error('a pipe is read to its end: --follow is for files')
+    for name, kind in OF_ONE_KIND.items():
+        if getattr(options, name) and options.kind != kind:
+            made.error(f'--{name.replace("_", "-")} is for {kind}')
+    if options.kind == 'kafka' and options.history:
+        made.error('--history is for sqlite and postgres: a topic is one')
     if options.kind == 'kafka' and not options.name:
         made.error('--name NAME is needed, a transactional.id that no other program has')
     options.name = options.name or 'mrep'

@@ -190,6 +190,8 @@ class PostgresSink(SqlSink[PostgresTable]):
                 if not self.is_lost(error):
                     self.roll_back()
                     raise self.failed(error) from error
+                if self.connection:
+                    self.connection.close()
                 self.connection = None
                 if time.monotonic() - begun > self.options.connect_retry:
                     raise Fault(f'PostgreSQL is gone: {str(error).strip()}', RETRY) from error
