@@ -32,7 +32,8 @@ SCHEMAS = '''CREATE SCHEMA IF NOT EXISTS mrep;
 CREATE TABLE IF NOT EXISTS mrep.place (name text PRIMARY KEY, place text NOT NULL, executed text NOT NULL, seq bigint NOT NULL, history boolean NOT NULL);
 CREATE TABLE IF NOT EXISTS mrep.columns (name text, schema text, "table" text, description text NOT NULL, PRIMARY KEY (schema, "table"));
 '''
-LOST = ('57P', '08')
+# The kinds of errors by which a server says that it goes away, and the one of a lock that was not given.
+LOST, LOCKED = ('57P', '08'), '55P03'
 ESCAPES = str.maketrans({'\\': '\\\\', '\t': '\\t', '\n': '\\n', '\r': '\\r'})
 COLUMN = re.compile(r', column (.*?)(?:: .*)?$', re.M)
 
@@ -200,12 +201,14 @@ class PostgresSink(SqlSink[PostgresTable]):
                 wait = min(2 * wait, 10)
 
     def is_lost(self, error: 'psycopg.Error') -> bool:
+        if error.sqlstate == LOCKED:
+            return False
         return isinstance(error, psycopg.OperationalError) and (self.connection is None or self.connection.closed or (error.sqlstate or '').startswith(LOST))
 
     def failed(self, error: 'psycopg.Error') -> Fault:
         """A fault of the database that has nothing to do with a row."""
         passes = isinstance(error, psycopg.OperationalError)
-        if (error.sqlstate or '') == '55P03':
+        if error.sqlstate == LOCKED:
             return Fault('another session has this sink, perhaps of a run that was killed: it was waited for', RETRY)
         return Fault(f'PostgreSQL says: {(error.diag.message_primary or str(error)).strip()}', RETRY if passes else ACT)
 
