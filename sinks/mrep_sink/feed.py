@@ -33,12 +33,16 @@ LARGE, CHUNK = 1 << 20, 1 << 16
 # The seconds between two looks at a file that grows.
 LOOK = 0.2
 CHANGES = frozenset(('insert', 'update', 'delete', 'skip'))
+ENDS = ('open', 'commit', 'rollback')
 FORMS = ('hex', 'base64', 'utf8')
 
 # A line of the feed; of each source the first and last numbers of its intervals, ascending and apart; a part of a file.
 Item = Dict[str, Any]
 GtidSet = Dict[str, List[List[int]]]
 Span = Tuple[IO[bytes], int, int]
+
+# The name under which a change has its line, where lines are kept: no member of a feed has it.
+LINE = ''
 
 scan = json.JSONDecoder().scan_once  # type: ignore[attr-defined]
 
@@ -149,19 +153,21 @@ def lines_of(span: Span) -> Iterator[bytes]:
 class Kept:
     """Changes of a transaction that has not ended: as they are while they are small, otherwise where their lines stand."""
 
-    def __init__(self, gtid: str = '') -> None:
-        self.gtid, self.count, self.size, self.is_in_order = gtid, 0, 0, True
+    def __init__(self, gtid: str = '', keeps_lines: bool = False) -> None:
+        self.gtid, self.count, self.size, self.is_in_order, self.keeps_lines = gtid, 0, 0, True, keeps_lines
         self.items: List[Item] = []
         self.spans: List[Span] = []
 
     def copy(self) -> 'Kept':
-        made = Kept(self.gtid)
+        made = Kept(self.gtid, self.keeps_lines)
         made.count, made.size, made.is_in_order = self.count, self.size, self.is_in_order
         made.items, made.spans = self.items[:], self.spans[:]
         return made
 
-    def add(self, item: Item, file: IO[bytes], begin: int, end: int) -> None:
+    def add(self, item: Item, line: bytes, file: IO[bytes], begin: int, end: int) -> None:
         count = self.count
+        if self.keeps_lines:
+            item[LINE] = line
         if item.get('n', count) != count:
             self.is_in_order = False
         self.count = count + 1
@@ -184,6 +190,8 @@ class Kept:
                 item = parsed(line)
                 if item is None or item.get('gtid') != self.gtid:
                     raise Fault('a file of the feed has changed while it was read: start again', RETRY)
+                if self.keeps_lines:
+                    item[LINE] = line
                 yield item
 
 
@@ -235,14 +243,15 @@ def digested(end: Tuple[int, int, bytes]) -> Tuple[int, int, str]:
 
 
 class Reader:
-    """A reader that goes on at a place, or begins, at ''. With `needs_form` an `open` before changes has to say the form of bytes."""
+    """A reader that goes on at a place, or begins, at ''. With `needs_form` an `open` before changes has to say the form of
+    bytes; with `keeps_lines` each change has its line as LINE."""
 
-    def __init__(self, place: str, adopt: bool = False, needs_form: bool = False) -> None:
+    def __init__(self, place: str, adopt: bool = False, needs_form: bool = False, keeps_lines: bool = False) -> None:
         found = json.loads(place or '{}')
         begin, end, line = found.get('last', (0, 0, ''))
         self.last: Tuple[int, int, str] = (begin, end, line)
         self.used, self.form = read_set(found.get('used', '')), found.get('bytes', '')
-        self.adopt, self.needs_form = adopt, needs_form
+        self.adopt, self.needs_form, self.keeps_lines = adopt, needs_form, keeps_lines
         # Where the reading of a file begins, and the changes before it whose transaction has not ended.
         self.begin, self.kept = 0, NOTHING
         # The changes that are kept now, whether a line was cut, and whether an `open` has come.
@@ -349,27 +358,20 @@ class Reader:
             self.is_cut = True
             return None
         try:
-            return self.take_item(item, begin, end, file, name)
+            kind = item['type']
+            if self.is_cut and kind != 'open':
+                return None
+            if kind in CHANGES:
+                if self.now.gtid != item['gtid']:
+                    self.now = Kept(item['gtid'], self.keeps_lines)
+                if kind != 'skip':
+                    self.now.add(item, line, file, begin, end)
+                return None
+            if kind not in ENDS:
+                raise Fault(f'{name}: a line of the type {kind} at {begin}, which is not known here: a later version is needed')
+            used = self.opened(item) if kind == 'open' else self.ended(item)
         except (AttributeError, KeyError, TypeError, ValueError) as error:
             raise Fault(f'{name}: the line at {begin} is none of a feed of mrep') from error
-
-    def take_item(self, item: Item, begin: int, end: int, file: IO[bytes], name: str) -> Optional[Transaction]:
-        """Takes what a line says."""
-        kind = item['type']
-        if self.is_cut and kind != 'open':
-            return None
-        if kind in CHANGES:
-            if self.now.gtid != item['gtid']:
-                self.now = Kept(item['gtid'])
-            if kind != 'skip':
-                self.now.add(item, file, begin, end)
-            return None
-        if kind == 'open':
-            used = self.opened(item)
-        elif kind in ('commit', 'rollback'):
-            used = self.ended(item)
-        else:
-            raise Fault(f'{name}: a line of the type {kind} at {begin}, which is not known here: a later version is needed')
         self.now, self.is_cut = NOTHING, False
         return used
 

@@ -14,7 +14,7 @@ except ImportError as missing:
 
 from .description import Table
 from .faults import RETRY, USAGE, Fault
-from .feed import Item, Transaction, place_text, print_set, read_set
+from .feed import LINE, Item, Transaction, place_text, print_set, read_set
 from .options import Options
 from .report import Report
 from .sink import Place, SqlSink, Target
@@ -51,6 +51,8 @@ class Topic(Target):
 
 class KafkaSink(SqlSink[Topic]):
     """A cluster of Kafka."""
+
+    keeps_lines = True
 
     def __init__(self, described: Dict[Tuple[str, str], Table], wanted: Dict[Tuple[str, str], Table], options: Options, report: Report) -> None:
         super().__init__(described, options)
@@ -89,7 +91,8 @@ class KafkaSink(SqlSink[Topic]):
     def begin(self) -> None:
         """Ends what an older run has begun, and only then reads the place."""
         self.producer = Producer({'transactional.id': self.options.name, 'transaction.timeout.ms': TRANSACTION_MS, 'partitioner': 'murmur2_random',
-                                  'linger.ms': 20, 'queue.buffering.max.kbytes': 8192, 'compression.type': 'lz4', **self.settings})
+                                  'linger.ms': 20, 'queue.buffering.max.kbytes': 8192, 'compression.type': 'lz4', 'delivery.report.only.error': True,
+                                  'on_delivery': self.delivered, **self.settings})
         if not self.options.unchecked:
             self.make_topics()
         self.producer.init_transactions(WAIT)
@@ -240,8 +243,11 @@ class KafkaSink(SqlSink[Topic]):
 
     def value(self, change: Item, before: Any, after: Any, transaction: Transaction) -> bytes:
         """What a message has."""
+        if self.options.envelope == 'feed' and change.get('before') is before and change.get('after') is after:
+            line: bytes = change[LINE]
+            return line[:-1]
         if self.options.envelope == 'feed':
-            kept = {name: it for name, it in change.items() if name not in ('before', 'after')}
+            kept = {name: it for name, it in change.items() if name not in (LINE, 'before', 'after')}
             return compact({**kept, **({'before': before} if before else {}), **({'after': after} if after else {})})
         committed = transaction.commit.get('committed_us')
         source = {'connector': 'mrep', 'name': self.options.name, 'db': change['schema'], 'table': change['table'], 'gtid': change['gtid'], 'row': change.get('n'),
@@ -251,8 +257,7 @@ class KafkaSink(SqlSink[Topic]):
     def produce(self, topic: str, key: Optional[bytes], value: Optional[bytes], headers: Headers, partition: int = -1) -> None:
         while True:
             try:
-                self.producer.produce(topic, value, key, partition, on_delivery=self.delivered, headers=headers)
-                self.producer.poll(0)
+                self.producer.produce(topic, value, key, partition, headers=headers)
                 return
             except BufferError:
                 self.producer.poll(0.1)

@@ -36,8 +36,9 @@ T = TypeVar('T', bound=Target)
 class Sink:
     """Something that takes batches of transactions, with the place after them in the same commit."""
 
-    # The place, as the reader takes it, and the executed set, both as they were committed last.
+    # The place, as the reader takes it, and the executed set, both as they were committed last; whether it needs the lines.
     held: Place
+    keeps_lines = False
 
     def write(self, batch: List[Transaction], after: Place, is_careful: bool) -> None:
         """Commits a batch. After a fault nothing of it is there. A careful one says which change it is."""
@@ -125,7 +126,7 @@ class Committer:
 
     def run(self) -> None:
         """Reads the feed to its end, or for ever."""
-        reader = Reader(self.sink.held[0], self.options.adopt, needs_form=True)
+        reader = Reader(self.sink.held[0], self.options.adopt, needs_form=True, keeps_lines=self.sink.keeps_lines)
         reader.on_cut = lambda name, at: self.report.say(f'{name}: a line is cut at {at}: what follows is left out up to an open')
         batch: List[Transaction] = []
         size, begun = 0, time.monotonic()
