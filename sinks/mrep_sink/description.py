@@ -18,6 +18,7 @@ MEMBERS = ('enum', 'set')
 BYTES = ('binary', 'varbinary', 'tinyblob', 'blob', 'mediumblob', 'longblob')
 TYPE = re.compile(r'([a-z]+)(?:\((.*)\))?( unsigned)?( zerofill)?', re.S)
 ESCAPE, ESCAPED = re.compile(r'\\(.)', re.S), {'t': '\t', 'n': '\n', '0': '\0', '\\': '\\'}
+encode = json.JSONEncoder(default=bytes.hex, separators=(',', ':')).encode
 PLAIN = re.compile(rb'[A-Za-z0-9_$]')
 
 Row = Tuple[Any, ...]
@@ -106,7 +107,7 @@ def decoded(value: Any, form: str) -> bytes:
 
 def digest_of(values: Iterable[Any]) -> bytes:
     """What a row without a key is found by: SHA-256 of its values, which tells -0.0 from 0.0."""
-    return hashlib.sha256(json.dumps([*values], default=bytes.hex, separators=(',', ':')).encode()).digest()
+    return hashlib.sha256(encode([*values]).encode()).digest()
 
 
 def written(name: str) -> str:

@@ -25,6 +25,7 @@ LONGEST_TOPIC = 249
 PLACE, ENDS = 'place', 'transactions'
 OPS = {'insert': 'c', 'update': 'u', 'delete': 'd'}
 ALLOWED = frozenset('abcdefghijklmnopqrstuvwxyzABCDEFGHIJKLMNOPQRSTUVWXYZ0123456789_-')
+encode = json.JSONEncoder(ensure_ascii=False, separators=(',', ':')).encode
 Headers = List[Tuple[str, bytes]]
 
 
@@ -34,7 +35,7 @@ def escaped(name: str) -> str:
 
 
 def compact(value: Any) -> bytes:
-    return json.dumps(value, ensure_ascii=False, separators=(',', ':')).encode()
+    return encode(value).encode()
 
 
 def key_text(table: Table, row: Optional[Dict[str, Any]]) -> Optional[bytes]:
