@@ -88,8 +88,9 @@ def measured(python, *words):
 def shown(job, count, goal, seconds, spent, memory, beside=None):
     """Prints a row. The goal is met by the seconds of a processor that the sink takes, since others share the machine."""
     is_met = count / spent >= goal and memory <= MEMORY
+    wanted = f' (goal {goal:,})' * (goal > 0) + ', **missed**' * (not is_met)
     other = f'{beside:.2f} s | {seconds / beside:.2f}' if beside else ' | '
-    print(f'| {job}, {count:,} changes | {seconds:.2f} s, {spent:.2f} of a processor | {other} | {count / seconds:,.0f}, {count / spent:,.0f} a second {f' (goal {goal:,})' if goal else ''}{"" if is_met else ", **missed**"} | {memory} MiB |', flush=True)
+    print(f'| {job}, {count:,} changes | {seconds:.2f} s, {spent:.2f} of a processor | {other} | {count / seconds:,.0f}, {count / spent:,.0f} a second{wanted} | {memory} MiB |', flush=True)
     return not is_met
 
 
