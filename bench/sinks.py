@@ -24,13 +24,15 @@ from scripted import MEASURED
 
 CHANGES = int(sys.argv[1]) if len(sys.argv) > 1 else 200_000
 A = '3e11fa47-71ca-11e1-9e33-c80aa9429562'
-TYPES = [('id', 'int', 'NULL', 'PRI'), ('big', 'bigint', 'NULL', ''), ('at', 'datetime', 'NULL', ''), *((f't{it}', 'varchar(80)', 'utf8mb4', '') for it in range(3))]
+TYPES = [('id', 'int', 'NULL', 'PRI'), ('big', 'bigint', 'NULL', ''), ('at', 'datetime', 'NULL', ''),
+         *((f't{it}', 'varchar(80)', 'utf8mb4', '') for it in range(3))]
 # The most memory, in MiB, and of how many runs the best one counts.
 MEMORY, RUNS = 64, 2
 
 
 def row(number, step=0):
-    return {'id': number, 'big': 10**12 + number * 7, 'at': f'2026-11-{number % 28 + 1:02} 10:00:{number % 60:02}', 't0': f'the name of {number}', 't1': f'a text of {step}', 't2': 'ü' * (number % 20)}
+    return {'id': number, 'big': 10**12 + number * 7, 'at': f'2026-11-{number % 28 + 1:02} 10:00:{number % 60:02}',
+            't0': f'the name of {number}', 't1': f'a text of {step}', 't2': 'ü' * (number % 20)}
 
 
 def changes(count, run):
@@ -60,13 +62,16 @@ def feed(name, count, size, run=1):
         for rows, kind in changes(count, run):
             if at == 0:
                 gtid += 1
-            file.write(compact({'type': kind, 'gtid': f'{A}:{gtid}', 'n': at, 'ts': 1795811726, 'schema': 'shop', 'table': 'items', **rows}))
+            file.write(compact({'type': kind, 'gtid': f'{A}:{gtid}', 'n': at, 'ts': 1795811726, 'schema': 'shop',
+                                'table': 'items', **rows}))
             at += 1
             if at == size:
-                file.write(compact({'type': 'commit', 'gtid': f'{A}:{gtid}', 'changes': at, 'committed_us': 1795811726000000 + gtid, 'server': 1, 'xid': gtid}))
+                file.write(compact({'type': 'commit', 'gtid': f'{A}:{gtid}', 'changes': at,
+                                    'committed_us': 1795811726000000 + gtid, 'server': 1, 'xid': gtid}))
                 at = 0
         if at:
-            file.write(compact({'type': 'commit', 'gtid': f'{A}:{gtid}', 'changes': at, 'committed_us': 1795811726000000 + gtid, 'server': 1, 'xid': gtid}))
+            file.write(compact({'type': 'commit', 'gtid': f'{A}:{gtid}', 'changes': at, 'committed_us': 1795811726000000 + gtid,
+                                'server': 1, 'xid': gtid}))
     return name
 
 
@@ -76,7 +81,8 @@ def measured(python, *words):
     for turn in range(RUNS):
         to = [it.replace('TURN', str(turn)) for it in words]
         begun = time.time()
-        ran = subprocess.run([python, '-c', MEASURED, python, sinks.SINK, *to], stdout=subprocess.DEVNULL, stderr=subprocess.PIPE, check=True)
+        ran = subprocess.run([python, '-c', MEASURED, python, sinks.SINK, *to], stdout=subprocess.DEVNULL, stderr=subprocess.PIPE,
+                             check=True)
         seconds = time.time() - begun
         memory, spent, status = ran.stderr.split()[-3:]
         if int(status):
@@ -90,14 +96,16 @@ def shown(job, count, goal, seconds, spent, memory, beside=None):
     is_met = count / spent >= goal and memory <= MEMORY
     wanted = f' (goal {goal:,})' * (goal > 0) + ', **missed**' * (not is_met)
     other = f'{beside:.2f} s | {seconds / beside:.2f}' if beside else ' | '
-    print(f'| {job}, {count:,} changes | {seconds:.2f} s, {spent:.2f} of a processor | {other} | {count / seconds:,.0f}, {count / spent:,.0f} a second{wanted} | {memory} MiB |', flush=True)
+    print(f'| {job}, {count:,} changes | {seconds:.2f} s, {spent:.2f} of a processor | {other} | {count / seconds:,.0f}, '
+          f'{count / spent:,.0f} a second{wanted} | {memory} MiB |', flush=True)
     return not is_met
 
 
 def library(path, count, run, size):
     """The seconds of the C library of SQLite for the same changes, whose statements and values are there already."""
     base = sqlite3.connect(path, isolation_level=None)
-    base.executescript('PRAGMA journal_mode = WAL; PRAGMA synchronous = FULL; CREATE TABLE items (id INTEGER PRIMARY KEY, big INTEGER, at TEXT, t0 TEXT, t1 TEXT, t2 TEXT) STRICT')
+    base.executescript('PRAGMA journal_mode = WAL; PRAGMA synchronous = FULL; CREATE TABLE items (id INTEGER PRIMARY KEY, big '
+                       'INTEGER, at TEXT, t0 TEXT, t1 TEXT, t2 TEXT) STRICT')
     made = [(kind, tuple((rows.get('after') or {}).values()), rows['key']['id']) for rows, kind in changes(count, run)]
     begun = time.time()
     for at in range(0, count, 1000 * size):
@@ -116,13 +124,17 @@ def library(path, count, run, size):
 
 def in_sqlite(work, columns):
     bad = 0
-    for job, size, words, goal in (('transactions of ten', 10, [], 40_000), ('of one row', 1, [], 20_000), ('of ten, `--history`', 10, ['--history'], 15_000), ('of one row, `--history`', 1, ['--history'], 15_000)):
+    for job, size, words, goal in (('transactions of ten', 10, [], 40_000), ('of one row', 1, [], 20_000),
+                                   ('of ten, `--history`', 10, ['--history'], 15_000),
+                                   ('of one row, `--history`', 1, ['--history'], 15_000)):
         name = feed(f'{work}/feed', CHANGES, size)
         found = measured(sys.executable, 'sqlite', f'{work}/{size}{len(words)}-TURN', '--columns', columns, *words, name)
-        bad += shown(f'`mrep-sink sqlite`, {job}', CHANGES, goal, *found, library(f'{work}/{size}{len(words)}-library', CHANGES, 1, size))
+        bad += shown(f'`mrep-sink sqlite`, {job}', CHANGES, goal, *found,
+                     library(f'{work}/{size}{len(words)}-library', CHANGES, 1, size))
     for count in (100_000, 1_000_000):
         name = feed(f'{work}/feed', count, 10)
-        bad += shown('the same, in transactions of ten', count, 40_000, *measured(sys.executable, 'sqlite', f'{work}/{count}-TURN', '--columns', columns, name))
+        bad += shown('the same, in transactions of ten', count, 40_000,
+                     *measured(sys.executable, 'sqlite', f'{work}/{count}-TURN', '--columns', columns, name))
     return bad
 
 
@@ -138,7 +150,8 @@ def in_postgres(work, columns):
             name = feed(f'{work}/feed', CHANGES, size, run)
             for turn in range(RUNS):
                 server.make(f'base{number}{turn}')
-            found = measured(python, 'postgres', f'host={server.folder} user=postgres dbname=base{number}TURN', '--columns', columns, name)
+            found = measured(python, 'postgres', f'host={server.folder} user=postgres dbname=base{number}TURN', '--columns',
+                             columns, name)
             server.psql(f'base{number}0', 'CREATE TABLE copied (LIKE shop.items INCLUDING ALL)')
             rows = [rows['after'] for rows, kind in changes(CHANGES, run) if kind == 'insert']
             with open(f'{work}/rows', 'w', encoding='utf-8') as file:
@@ -146,7 +159,8 @@ def in_postgres(work, columns):
             os.chmod(f'{work}/rows', 0o644)
             begun = time.time()
             server.psql(f'base{number}0', f"\\copy copied FROM '{work}/rows'")
-            bad += shown(f'`mrep-sink postgres`, {job}, beside COPY of its {len(rows):,} rows', CHANGES, 15_000 if run > 1 else 0, *found, time.time() - begun)
+            bad += shown(f'`mrep-sink postgres`, {job}, beside COPY of its {len(rows):,} rows', CHANGES, 15_000 if run > 1 else 0,
+                         *found, time.time() - begun)
     finally:
         server.stop()
     return bad
@@ -157,12 +171,14 @@ def in_kafka(work, columns):
     if not python:
         print('sinks: Kafka is left out, since no python3 here has confluent_kafka', flush=True)
         return 0
-    mock = ("import sys\nfrom confluent_kafka import Producer\np = Producer({'bootstrap.servers': 'mock', 'test.mock.num.brokers': 1, 'log_level': 0})\n"
+    mock = ("import sys\nfrom confluent_kafka import Producer\np = Producer({'bootstrap.servers': 'mock', "
+            "'test.mock.num.brokers': 1, 'log_level': 0})\n"
             "print(','.join(f'{it.host}:{it.port}' for it in p.list_topics(timeout=30).brokers.values()), flush=True)\nsys.stdin.read()")
     with subprocess.Popen([python, '-c', mock], stdin=subprocess.PIPE, stdout=subprocess.PIPE) as cluster:
         brokers = cluster.stdout.readline().decode().strip()
         name = feed(f'{work}/feed', CHANGES, 10)
-        found = measured(python, 'kafka', brokers, '--topics', 'tTURN', '--name', 'tTURN', '--unchecked', '--partitions', '4', '--columns', columns, name)
+        found = measured(python, 'kafka', brokers, '--topics', 'tTURN', '--name', 'tTURN', '--unchecked', '--partitions', '4',
+                         '--columns', columns, name)
         cluster.stdin.close()
     return shown('`mrep-sink kafka`, transactions of ten, to the mock of its library', CHANGES, 30_000, *found)
 

@@ -15,7 +15,8 @@ def name_of(option: argparse.Action) -> str:
     return ' '.join(filter(None, [', '.join(option.option_strings), value]))
 
 
-def page(name: str, does: str, forms: List[str], about: str, options: argparse.ArgumentParser, end: str, files: Dict[str, str]) -> str:
+def page(name: str, does: str, forms: List[str], about: str, options: argparse.ArgumentParser, end: str,
+         files: Dict[str, str]) -> str:
     """The page of a program. `end` has its examples and, after an empty line, its exit statuses."""
     examples, statuses = end.split('\n\n')
     out = [f'.TH {plain(name.upper())} 1 "" "" "User Commands"', '.SH NAME', f'{plain(name)} \\- {does}', '.SH SYNOPSIS']

@@ -37,7 +37,8 @@ class Column:
         self.numbers = [int(it) for it in (found[2] or '').split(',')] if self.type not in MEMBERS and found[2] else []
         self.character_set = character_set
         # Types of Python that a value has in the feed.
-        self.is_bytes = self.type in BYTES or self.type in CHARACTERS and character_set not in KNOWN or self.type in MEMBERS and character_set == 'NULL'
+        self.is_bytes = (self.type in BYTES or self.type in CHARACTERS and character_set not in KNOWN
+                         or self.type in MEMBERS and character_set == 'NULL')
         self.takes: Tuple[type, ...] = ()
         if self.is_bytes:
             self.takes = (str, dict)
@@ -70,7 +71,8 @@ class Table:
     def values(self, row: Dict[str, Any], form: str) -> List[Any]:
         """The values of a row of the feed, with bytes as such. It has the columns of the description, in order."""
         if tuple(row) != self.names:
-            raise Fault(self.unfit('the feed has other columns' if 'cells' not in row else 'the feed has no names of columns: write it with --columns'))
+            raise Fault(self.unfit('the feed has other columns' if 'cells' not in row
+                                   else 'the feed has no names of columns: write it with --columns'))
         values = [*row.values()]
         types = tuple(map(type, values))
         if types not in self.fitting:
@@ -84,10 +86,12 @@ class Table:
     def fit(self, values: List[Any]) -> None:
         for column, value in zip(self.columns, values):
             if value is not None and type(value) not in column.takes or value is None and column.is_key:
-                raise Fault(self.unfit(f'the column {shown(column.name)} of type {shown(column.kind)} has the value {shown(value)}'))
+                raise Fault(self.unfit(f'the column {shown(column.name)} of type {shown(column.kind)} has the value '
+                                       f'{shown(value)}'))
 
     def unfit(self, why: str) -> str:
-        return f'{self.title}: {why}, and does not fit the description: fetch it again, as after an ALTER; a sink with rows of the older one is made anew'
+        return (f'{self.title}: {why}, and does not fit the description: fetch it again, as after an ALTER; '
+                'a sink with rows of the older one is made anew')
 
     def key_of(self, values: List[Any]) -> Row:
         return tuple([values[at] for at in self.keys])
@@ -127,7 +131,8 @@ def read(path: str) -> Dict[Tuple[str, str], Table]:
             for number, line in enumerate(file, 1):
                 fields = line.rstrip('\n').split('\t')
                 if len(fields) != 6 or not line.endswith('\n') or not all(fields[:3]):
-                    raise Fault(f'{path}: line {number} is no line of a description: six fields with tabs between, as `mrep columns` asks for them', USAGE)
+                    raise Fault(f'{path}: line {number} is no line of a description: six fields with tabs between, as `mrep '
+                                f'columns` asks for them', USAGE)
                 schema, name, column, kind, character_set, key = map(plain, fields)
                 table = found.setdefault((schema, name), Table(schema, name))
                 table.columns.append(Column(column, kind, character_set, key))

@@ -57,7 +57,8 @@ def read_set(printed: str) -> GtidSet:
 
 
 def print_set(found: GtidSet) -> str:
-    return ','.join(':'.join([source, *(f'{lo}-{hi}' if lo < hi else f'{lo}' for lo, hi in found[source])]) for source in sorted(found))
+    return ','.join(':'.join([source, *(f'{lo}-{hi}' if lo < hi else f'{lo}' for lo, hi in found[source])])
+                    for source in sorted(found))
 
 
 def has(found: GtidSet, other: GtidSet) -> bool:
@@ -285,7 +286,8 @@ class Reader:
             file, goes_on = open_feed(names[0]), True
             while goes_on:
                 # One that was renamed is written until the next one is there.
-                goes_on = follow and (len(names) == 1 and is_named(file, names[0]) or len(names) == 2 and not os.path.exists(names[1]))
+                goes_on = follow and (len(names) == 1 and is_named(file, names[0]) or len(names) == 2
+                                      and not os.path.exists(names[1]))
                 yield from self.read(file, names[0])
                 if goes_on:
                     if idle:

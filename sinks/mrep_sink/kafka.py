@@ -1,5 +1,5 @@
-"""The sink in Kafka, by confluent-kafka: a topic a table, a message a change. The changes of a batch, the ends of its transactions
-and the new place are one transaction of Kafka."""
+"""The sink in Kafka, by confluent-kafka: a topic a table, a message a change. The changes of a batch, the ends of its
+transactions and the new place are one transaction of Kafka."""
 
 import json
 import time
@@ -10,7 +10,8 @@ try:
     from confluent_kafka.admin import AdminClient, ConfigResource, NewTopic
 except ImportError as missing:
     from .faults import USAGE, Fault
-    raise Fault('this python3 has no confluent_kafka, which Kafka needs: python3-confluent-kafka of Debian, or confluent-kafka of PyPI', USAGE) from missing
+    raise Fault('this python3 has no confluent_kafka, which Kafka needs: python3-confluent-kafka of Debian, or confluent-kafka '
+                'of PyPI', USAGE) from missing
 
 from .description import Table
 from .faults import RETRY, USAGE, Fault
@@ -55,7 +56,8 @@ class KafkaSink(SqlSink[Topic]):
 
     keeps_lines = True
 
-    def __init__(self, described: Dict[Tuple[str, str], Table], wanted: Dict[Tuple[str, str], Table], options: Options, report: Report) -> None:
+    def __init__(self, described: Dict[Tuple[str, str], Table], wanted: Dict[Tuple[str, str], Table], options: Options,
+                 report: Report) -> None:
         super().__init__(described, options)
         self.report, self.where = report, 'the place in Kafka'
         if not options.topics or {*options.topics} - ALLOWED - {'.'}:
@@ -64,7 +66,8 @@ class KafkaSink(SqlSink[Topic]):
         self.place_topic, self.ends_topic = f'{options.topics}.{PLACE}', f'{options.topics}.{ENDS}'
         for target in self.targets.values():
             if len(target.topic) > LONGEST_TOPIC:
-                raise Fault(f'{target.title}: its topic would have {len(target.topic)} characters, and {LONGEST_TOPIC} are the most: a shorter --topics', USAGE)
+                raise Fault(f'{target.title}: its topic would have {len(target.topic)} characters, and {LONGEST_TOPIC} are the '
+                            f'most: a shorter --topics', USAGE)
         self.settings: Dict[str, Any] = {'bootstrap.servers': options.to}
         for word in options.setting:
             name, sign, value = word.partition('=')
@@ -84,16 +87,18 @@ class KafkaSink(SqlSink[Topic]):
         if isinstance(why, KafkaError) and why.code() in (KafkaError._FENCED, KafkaError.INVALID_PRODUCER_EPOCH):
             return Fault(f'a newer run has this sink, and has ended this one ({text})')
         if isinstance(why, KafkaError) and why.code() in (KafkaError.MSG_SIZE_TOO_LARGE, KafkaError.RECORD_LIST_TOO_LARGE):
-            return Fault(f'a row is larger than Kafka takes ({text}): raise message.max.bytes by --setting and max.message.bytes of its topic')
+            return Fault(f'a row is larger than Kafka takes ({text}): raise message.max.bytes by --setting and '
+                         f'max.message.bytes of its topic')
         return Fault(f'Kafka says: {text}', RETRY)
 
     # The beginning
 
     def begin(self) -> None:
         """Ends what an older run has begun, and only then reads the place."""
-        self.producer = Producer({'transactional.id': self.options.name, 'transaction.timeout.ms': TRANSACTION_MS, 'partitioner': 'murmur2_random',
-                                  'linger.ms': 20, 'queue.buffering.max.kbytes': 8192, 'compression.type': 'lz4', 'delivery.report.only.error': True,
-                                  'on_delivery': self.delivered, **self.settings})
+        self.producer = Producer({'transactional.id': self.options.name, 'transaction.timeout.ms': TRANSACTION_MS,
+                                  'partitioner': 'murmur2_random',
+                                  'linger.ms': 20, 'queue.buffering.max.kbytes': 8192, 'compression.type': 'lz4',
+                                  'delivery.report.only.error': True, 'on_delivery': self.delivered, **self.settings})
         if not self.options.unchecked:
             self.make_topics()
         self.producer.init_transactions(WAIT)
@@ -103,8 +108,10 @@ class KafkaSink(SqlSink[Topic]):
                 self.refuse_messages()
             found = {'place': '', 'executed': '', 'partitions': self.options.partitions, 'tables': self.tables()}
         if found['partitions'] != self.options.partitions:
-            raise Fault(f'the topics have {found["partitions"]} partitions, which may not change, since a key would go to another one: --partitions {found["partitions"]}')
-        self.others(self.options.name, False, {place: text for *names, text in found['tables'] for place in [(names[0], names[1])]})
+            raise Fault(f'the topics have {found["partitions"]} partitions, which may not change, since a key would go to '
+                        f'another one: --partitions {found["partitions"]}')
+        self.others(self.options.name, False, {place: text for *names, text in found['tables']
+                                               for place in [(names[0], names[1])]})
         executed: str = found['executed']
         self.held = (found['place'] or place_text((0, 0, ''), read_set(executed), ''), executed)
 
@@ -117,7 +124,8 @@ class KafkaSink(SqlSink[Topic]):
         admin = AdminClient(self.settings)
         there = admin.list_topics(timeout=WAIT).topics
         keyed = {target.topic: self.options.partitions if target.table.keys else 1 for target in self.targets.values()}
-        missing = [NewTopic(name, count, -1, config={'retention.ms': '-1'}) for name, count in {**keyed, self.ends_topic: 1}.items() if name not in there]
+        missing = [NewTopic(name, count, -1, config={'retention.ms': '-1'})
+                   for name, count in {**keyed, self.ends_topic: 1}.items() if name not in there]
         if self.place_topic not in there:
             missing.append(NewTopic(self.place_topic, 1, -1, config={'cleanup.policy': 'compact'}))
         for made in admin.create_topics(missing, request_timeout=WAIT).values() if missing else []:
@@ -125,13 +133,16 @@ class KafkaSink(SqlSink[Topic]):
         settings = admin.describe_configs([ConfigResource('topic', self.place_topic)], request_timeout=WAIT)
         policy = next(iter(settings.values())).result()['cleanup.policy'].value
         if policy != 'compact':
-            raise Fault(f'the topic {self.place_topic} has cleanup.policy {policy}, by which the place would be deleted: set it to compact')
+            raise Fault(f'the topic {self.place_topic} has cleanup.policy {policy}, by which the place would be deleted: set it '
+                        f'to compact')
         for name, count in keyed.items():
             if name in there and len(there[name].partitions) != count:
-                raise Fault(f'the topic {name} has {len(there[name].partitions)} partitions, and {count} are asked for: --partitions, or another --topics')
+                raise Fault(f'the topic {name} has {len(there[name].partitions)} partitions, and {count} are asked for: '
+                            f'--partitions, or another --topics')
 
     def consumer(self) -> Consumer:
-        return Consumer({'group.id': f'{self.options.name}-place', 'isolation.level': 'read_committed', 'enable.auto.commit': False, 'auto.offset.reset': 'earliest',
+        return Consumer({'group.id': f'{self.options.name}-place', 'isolation.level': 'read_committed',
+                         'enable.auto.commit': False, 'auto.offset.reset': 'earliest',
                          'enable.partition.eof': True, **self.settings})
 
     def last_place(self) -> Optional[Dict[str, Any]]:
@@ -166,7 +177,8 @@ class KafkaSink(SqlSink[Topic]):
                 for partition in there[target.topic].partitions if target.topic in there else []:
                     low, high = consumer.get_watermark_offsets(TopicPartition(target.topic, partition), timeout=WAIT)
                     if high > low:
-                        raise Fault(f'the topic {target.topic} has messages, and there is no place of {self.options.name}: --name, another --topics, or --new')
+                        raise Fault(f'the topic {target.topic} has messages, and there is no place of {self.options.name}: '
+                                    f'--name, another --topics, or --new')
         finally:
             consumer.close()
 
@@ -221,10 +233,12 @@ class KafkaSink(SqlSink[Topic]):
             for side in ('before', 'after'):
                 if side in change:
                     target.table.values(change[side], transaction.form)
-            self.send_change(target, change, [('gtid', change['gtid'].encode()), ('n', str(change.get('n', '')).encode()), ('changes', str(count).encode())], transaction)
+            self.send_change(target, change, [('gtid', change['gtid'].encode()), ('n', str(change.get('n', '')).encode()),
+                                              ('changes', str(count).encode())], transaction)
         if transaction.adds:
             for gtids in transaction.adds:
-                value = {'gtid': print_set(gtids), 'changes': count, **{name: it for name, it in transaction.commit.items() if name in ('committed_us', 'server', 'xid')}}
+                value = {'gtid': print_set(gtids), 'changes': count,
+                         **{name: it for name, it in transaction.commit.items() if name in ('committed_us', 'server', 'xid')}}
                 self.produce(self.ends_topic, None, compact(value), [], 0)
 
     def send_change(self, target: Topic, change: Item, headers: Headers, transaction: Transaction) -> None:
@@ -232,9 +246,11 @@ class KafkaSink(SqlSink[Topic]):
         table, before, after = target.table, change.get('before'), change.get('after')
         old, new = key_text(table, before), key_text(table, after)
         if old and new and old != new:
-            self.produce(target.topic, old, self.value({**change, 'type': 'delete'}, before, None, transaction), [*headers, ('new_key', new)])
+            self.produce(target.topic, old, self.value({**change, 'type': 'delete'}, before, None, transaction),
+                         [*headers, ('new_key', new)])
             self.produce(target.topic, old, None, [*headers, ('new_key', new)])
-            self.produce(target.topic, new, self.value({**change, 'type': 'insert'}, None, after, transaction), [*headers, ('old_key', old)])
+            self.produce(target.topic, new, self.value({**change, 'type': 'insert'}, None, after, transaction),
+                         [*headers, ('old_key', old)])
             return
         # Without a key there is one partition, so that an insert stands before its delete.
         partition = -1 if table.keys else 0
@@ -251,9 +267,11 @@ class KafkaSink(SqlSink[Topic]):
             kept = {name: it for name, it in change.items() if name not in (LINE, 'before', 'after')}
             return compact({**kept, **({'before': before} if before else {}), **({'after': after} if after else {})})
         committed = transaction.commit.get('committed_us')
-        source = {'connector': 'mrep', 'name': self.options.name, 'db': change['schema'], 'table': change['table'], 'gtid': change['gtid'], 'row': change.get('n'),
+        source = {'connector': 'mrep', 'name': self.options.name, 'db': change['schema'], 'table': change['table'],
+                  'gtid': change['gtid'], 'row': change.get('n'),
                   'ts_ms': change['ts'] * 1000 if 'ts' in change else None}
-        return compact({'before': before, 'after': after, 'source': source, 'op': OPS[change['type']], 'ts_ms': committed // 1000 if committed else None})
+        return compact({'before': before, 'after': after, 'source': source, 'op': OPS[change['type']], 'ts_ms': committed // 1000
+                        if committed else None})
 
     def produce(self, topic: str, key: Optional[bytes], value: Optional[bytes], headers: Headers, partition: int = -1) -> None:
         while True:

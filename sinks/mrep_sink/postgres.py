@@ -1,5 +1,5 @@
-"""The sink in PostgreSQL, by psycopg 3: schemas and tables by their names, the place in the same commit in a schema of its own, and
-beside it the history. Values are given as texts, which PostgreSQL reads by the type of their column."""
+"""The sink in PostgreSQL, by psycopg 3: schemas and tables by their names, the place in the same commit in a schema of its own,
+and beside it the history. Values are given as texts, which PostgreSQL reads by the type of their column."""
 
 import re
 import time
@@ -9,7 +9,8 @@ try:
     import psycopg
 except ImportError as missing:
     from .faults import USAGE, Fault
-    raise Fault('this python3 has no psycopg 3, which PostgreSQL needs: python3-psycopg of Debian, or psycopg of PyPI', USAGE) from missing
+    raise Fault('this python3 has no psycopg 3, which PostgreSQL needs: python3-psycopg of Debian, or psycopg of PyPI',
+                USAGE) from missing
 
 from .description import BYTES, CHARACTERS, MEMBERS, Column, Table, digest_of
 from .faults import ACT, RETRY, USAGE, Fault, shown
@@ -25,12 +26,15 @@ SYSTEM_COLUMNS = ('tableoid', 'xmin', 'cmin', 'xmax', 'cmax', 'ctid')
 # From how many changes on a run goes by COPY.
 BULK = 20
 BEFORE = ('"seq" bigint PRIMARY KEY', '"gtid" text', '"n" integer', '"ts" bigint', '"committed_us" bigint', '"op" text')
-SESSION = ("SET client_min_messages = warning; SET client_encoding = 'UTF8'; SET TimeZone = 'UTC'; SET DateStyle = 'ISO, YMD'; SET IntervalStyle = 'postgres'; "
+SESSION = ("SET client_min_messages = warning; SET client_encoding = 'UTF8'; SET TimeZone = 'UTC'; SET DateStyle = 'ISO, YMD'; "
+           "SET IntervalStyle = 'postgres'; "
            # A table of a run has no statistics, and each of its rows is to be found by the key.
            "SET enable_hashjoin = off; SET enable_mergejoin = off; SET enable_seqscan = off")
 SCHEMAS = '''CREATE SCHEMA IF NOT EXISTS mrep;
-CREATE TABLE IF NOT EXISTS mrep.place (name text PRIMARY KEY, place text NOT NULL, executed text NOT NULL, seq bigint NOT NULL, history boolean NOT NULL);
-CREATE TABLE IF NOT EXISTS mrep.columns (name text, schema text, "table" text, description text NOT NULL, PRIMARY KEY (schema, "table"));
+CREATE TABLE IF NOT EXISTS mrep.place
+    (name text PRIMARY KEY, place text NOT NULL, executed text NOT NULL, seq bigint NOT NULL, history boolean NOT NULL);
+CREATE TABLE IF NOT EXISTS mrep.columns
+    (name text, schema text, "table" text, description text NOT NULL, PRIMARY KEY (schema, "table"));
 '''
 # The kinds of errors by which a server says that it goes away, and the one of a lock that was not given.
 LOST, LOCKED = ('57P', '08'), '55P03'
@@ -54,7 +58,8 @@ def type_of(column: Column) -> str:
         return 'integer'
     if column.type == 'int' or column.type == 'bigint' and not column.is_unsigned:
         return 'bigint'
-    known = {'bigint': 'numeric(20)', 'decimal': f'numeric({numbers})', 'float': 'real', 'double': 'double precision', 'bit': f'bit({digits})', 'date': 'date',
+    known = {'bigint': 'numeric(20)', 'decimal': f'numeric({numbers})', 'float': 'real', 'double': 'double precision',
+             'bit': f'bit({digits})', 'date': 'date',
              'datetime': f'timestamp({digits})', 'timestamp': f'timestamptz({digits})', 'time': f'interval({digits})'}
     return known.get(column.type, 'text')
 
@@ -97,22 +102,27 @@ class PostgresTable(Target):
         all_names = names + [ROW] * (not table.keys)
         self.copying = f'COPY {self.name} ({", ".join(all_names)}) FROM STDIN'
         self.insertion = f'INSERT INTO {self.name} ({", ".join(all_names)}) VALUES ({", ".join(["%s"] * len(all_names))})'
-        where = ' AND '.join(f'{quoted(name)} = %s' for name in table.key_names) or f'ctid = (SELECT ctid FROM {self.name} WHERE {ROW} = %s LIMIT 1)'
+        where = ' AND '.join(f'{quoted(name)} = %s'
+                             for name in table.key_names) or f'ctid = (SELECT ctid FROM {self.name} WHERE {ROW} = %s LIMIT 1)'
         self.update = f'UPDATE {self.name} SET {", ".join(f"{name} = %s" for name in all_names)} WHERE {where}'
         self.deletion = f'DELETE FROM {self.name} WHERE {where}'
         # Runs by a table of the session: the key before, and the row after.
         self.run = f'mrep_run_{number}'
         keys = [f'k{at} {self.types[place]}' for at, place in enumerate(table.keys)]
-        self.run_creation = f'CREATE TEMP TABLE IF NOT EXISTS {self.run} ({", ".join(keys + [f"c{at} {kind}" for at, kind in enumerate(self.types)])})'
+        keys += [f'c{at} {kind}' for at, kind in enumerate(self.types)]
+        self.run_creation = f'CREATE TEMP TABLE IF NOT EXISTS {self.run} ({", ".join(keys)})'
         join = ' AND '.join(f't.{quoted(name)} = r.k{at}' for at, name in enumerate(table.key_names))
-        self.run_update = f'UPDATE {self.name} t SET {", ".join(f"{name} = r.c{at}" for at, name in enumerate(names))} FROM {self.run} r WHERE {join}'
+        sets = ', '.join(f'{name} = r.c{at}' for at, name in enumerate(names))
+        self.run_update = f'UPDATE {self.name} t SET {sets} FROM {self.run} r WHERE {join}'
         self.run_deletion = f'DELETE FROM {self.name} t USING {self.run} r WHERE {join}'
-        self.run_keys = ', '.join(f'k{at}' for at in range(len(keys)))
+        self.run_keys = ', '.join(f'k{at}' for at in range(len(table.keys)))
         self.history_name = f'{table.schema}.{table.name}'
         self.history = f'{HISTORY}.{quoted(self.history_name)}'
-        sides = [f'{quoted(f"{side}_{it.name}")} {kind}' for side in ('before', 'after') for it, kind in zip(table.columns, self.types)]
+        sides = [f'{quoted(f"{side}_{it.name}")} {kind}' for side in ('before', 'after')
+                 for it, kind in zip(table.columns, self.types)]
         self.history_creation = f'CREATE TABLE {self.history} ({", ".join([*BEFORE, *sides])})'
-        self.history_indexes = [f'CREATE INDEX ON {self.history} ({", ".join(quoted(f"{side}_{name}") for name in table.key_names)}, seq)'
+        self.history_indexes = [f'CREATE INDEX ON {self.history} '
+                                f'({", ".join(quoted(f"{side}_{name}") for name in table.key_names)}, seq)'
                                 for side in ('before', 'after')] if table.keys else []
         self.nothing: List[Optional[str]] = [None] * len(names)
 
@@ -152,7 +162,8 @@ def check_names(tables: List[PostgresTable], has_history: bool) -> None:
         elif long:
             why = f'the name {shown(long[0])}, which PostgreSQL would cut at {LONGEST_NAME} bytes'
         elif table.schema.startswith(('pg_', 'mrep')) or table.schema == 'information_schema':
-            why = f'the schema {table.schema}, which {"the sink" if table.schema.startswith("mrep") else "PostgreSQL"} keeps for itself'
+            keeper = 'the sink' if table.schema.startswith('mrep') else 'PostgreSQL'
+            why = f'the schema {table.schema}, which {keeper} keeps for itself'
         elif any(it in SYSTEM_COLUMNS or it == ROW for it in table.names):
             why = f'a column called {next(it for it in table.names if it in SYSTEM_COLUMNS or it == ROW)}, a name that is kept'
         elif columns > MOST_COLUMNS:
@@ -166,10 +177,12 @@ class PostgresSink(SqlSink[PostgresTable]):
 
     most = 5000
 
-    def __init__(self, described: Dict[Tuple[str, str], Table], wanted: Dict[Tuple[str, str], Table], options: Options, report: Report) -> None:
+    def __init__(self, described: Dict[Tuple[str, str], Table], wanted: Dict[Tuple[str, str], Table], options: Options,
+                 report: Report) -> None:
         super().__init__(described, options)
         self.report, self.where = report, 'the database'
-        self.targets = {place: PostgresTable(table, options.as_text, number) for number, (place, table) in enumerate(wanted.items())}
+        self.targets = {place: PostgresTable(table, options.as_text, number)
+                        for number, (place, table) in enumerate(wanted.items())}
         columns = {f'{target.title}.{name}' for target in self.targets.values() for name in target.table.names}
         for word in options.as_text:
             if word not in columns:
@@ -203,7 +216,8 @@ class PostgresSink(SqlSink[PostgresTable]):
     def is_lost(self, error: 'psycopg.Error') -> bool:
         if error.sqlstate == LOCKED:
             return False
-        return isinstance(error, psycopg.OperationalError) and (self.connection is None or self.connection.closed or (error.sqlstate or '').startswith(LOST))
+        return isinstance(error, psycopg.OperationalError) and (self.connection is None or self.connection.closed
+                                                                or (error.sqlstate or '').startswith(LOST))
 
     def failed(self, error: 'psycopg.Error') -> Fault:
         """A fault of the database that has nothing to do with a row."""
@@ -225,8 +239,9 @@ class PostgresSink(SqlSink[PostgresTable]):
         return self.connection
 
     def roll_back(self) -> None:
-        if self.connection and not self.connection.closed and self.connection.info.transaction_status != psycopg.pq.TransactionStatus.IDLE:
-            self.connection.execute('ROLLBACK')
+        base = self.connection
+        if base and not base.closed and base.info.transaction_status != psycopg.pq.TransactionStatus.IDLE:
+            base.execute('ROLLBACK')
 
     # The beginning
 
@@ -235,7 +250,8 @@ class PostgresSink(SqlSink[PostgresTable]):
         base = self.connect()
         encoding = (base.execute('SHOW server_encoding').fetchone() or [''])[0]
         if encoding != 'UTF8':
-            raise Fault(f'the database has the encoding {encoding}, and UTF8 is needed: CREATE DATABASE .. ENCODING UTF8 TEMPLATE template0')
+            raise Fault(f'the database has the encoding {encoding}, and UTF8 is needed: CREATE DATABASE .. ENCODING UTF8 '
+                        f'TEMPLATE template0')
         base.execute('BEGIN')
         base.execute(SCHEMAS)
         if self.options.history:
@@ -247,21 +263,24 @@ class PostgresSink(SqlSink[PostgresTable]):
             for target in self.targets.values():
                 self.make(target)
         else:
-            made = {(schema, table): text for schema, table, text in base.execute('SELECT schema, "table", description FROM mrep.columns WHERE name = %s', [name])}
+            made = {(schema, table): text for schema, table, text in base.execute('SELECT schema, "table", description FROM '
+                                                                                  'mrep.columns WHERE name = %s', [name])}
             for target in self.others(name, found[0], made):
                 self.make_anew(target, found[0])
             if self.options.history and not found[0]:
                 for target in self.targets.values():
                     self.make_history(target)
                 base.execute('UPDATE mrep.place SET history = true WHERE name = %s', [name])
-        place, executed, self.seq = base.execute('SELECT place, executed, seq FROM mrep.place WHERE name = %s', [name]).fetchone() or ('', '', 0)
+        place, executed, self.seq = base.execute('SELECT place, executed, seq FROM mrep.place WHERE name = %s',
+                                                 [name]).fetchone() or ('', '', 0)
         base.execute('COMMIT')
         return (place or place_text((0, 0, ''), read_set(executed), ''), executed)
 
     def make(self, target: PostgresTable) -> None:
         """Makes a table, and what stands beside it."""
         base, table = self.connect(), target.table
-        other = base.execute('SELECT name FROM mrep.columns WHERE schema = %s AND "table" = %s', [table.schema, table.name]).fetchone()
+        other = base.execute('SELECT name FROM mrep.columns WHERE schema = %s AND "table" = %s',
+                             [table.schema, table.name]).fetchone()
         if other:
             raise Fault(f'{target.title}: the sink of the feed {other[0]} has this table')
         base.execute(f'CREATE SCHEMA IF NOT EXISTS {quoted(table.schema)}')
@@ -270,7 +289,8 @@ class PostgresSink(SqlSink[PostgresTable]):
         base.execute(target.creation)
         if target.index:
             base.execute(target.index)
-        base.execute('INSERT INTO mrep.columns VALUES (%s, %s, %s, %s)', [self.options.name, table.schema, table.name, target.description])
+        base.execute('INSERT INTO mrep.columns VALUES (%s, %s, %s, %s)',
+                     [self.options.name, table.schema, table.name, target.description])
         if self.options.history:
             self.make_history(target)
 
@@ -281,7 +301,8 @@ class PostgresSink(SqlSink[PostgresTable]):
             base.execute(statement)
         names = ', '.join(map(quoted, target.table.names))
         nothing = ', '.join(f'NULL::{kind}' for kind in target.types)
-        made = base.execute(f'INSERT INTO {target.history} SELECT (SELECT seq FROM mrep.place WHERE name = %s) + row_number() OVER (), NULL, NULL, NULL, NULL, \'r\', '
+        made = base.execute(f'INSERT INTO {target.history} SELECT (SELECT seq FROM mrep.place WHERE name = %s) + row_number() '
+                            f'OVER (), NULL, NULL, NULL, NULL, \'r\', '
                             f'{nothing}, {names} FROM {target.name}', [self.options.name])
         base.execute('UPDATE mrep.place SET seq = seq + %s WHERE name = %s', [made.rowcount, self.options.name])
 
@@ -295,7 +316,8 @@ class PostgresSink(SqlSink[PostgresTable]):
             seq = (base.execute('SELECT seq FROM mrep.place WHERE name = %s', [self.options.name]).fetchone() or [0])[0]
             older = f'{target.history_name}.until.{seq}'
             if len(older.encode()) > LONGEST_NAME:
-                raise Fault(f'{target.title}: its history would be kept as {shown(older)}, a name that PostgreSQL cuts: rename {target.history}')
+                raise Fault(f'{target.title}: its history would be kept as {shown(older)}, a name that PostgreSQL cuts: rename '
+                            f'{target.history}')
             base.execute(f'ALTER TABLE {target.history} RENAME TO {quoted(older)}')
         base.execute('DELETE FROM mrep.columns WHERE schema = %s AND "table" = %s', [table.schema, table.name])
         self.make(target)
@@ -310,13 +332,15 @@ class PostgresSink(SqlSink[PostgresTable]):
             base, self.seq = self.connect(), seq
             if is_new:
                 # A commit whose answer was lost is there, or it is not.
-                found = base.execute('SELECT place, executed, seq FROM mrep.place WHERE name = %s', [self.options.name]).fetchone()
+                found = base.execute('SELECT place, executed, seq FROM mrep.place WHERE name = %s',
+                                     [self.options.name]).fetchone()
                 if found and found[:2] == after:
                     self.seq = found[2]
                     return after
             base.execute('BEGIN')
             self.use(batch, is_careful)
-            done = base.execute('UPDATE mrep.place SET place = %s, executed = %s, seq = %s WHERE name = %s AND (place = %s OR place = \'\') AND executed = %s',
+            done = base.execute('UPDATE mrep.place SET place = %s, executed = %s, seq = %s WHERE name = %s AND (place = %s OR '
+                                'place = \'\') AND executed = %s',
                                 [*after, self.seq, self.options.name, *self.stored])
             if done.rowcount != 1:
                 raise Fault('another process has used the feed meanwhile')
@@ -372,15 +396,18 @@ class PostgresSink(SqlSink[PostgresTable]):
     def keep_history(self, target: PostgresTable, kind: str, entries: List[Entry]) -> None:
         lines = []
         for seq, (before, after, change, committed) in enumerate(entries, self.seq + 1):
-            head = [str(seq), change['gtid'], *(None if it is None else str(it) for it in (change.get('n'), change.get('ts'), committed)), kind[0]]
+            head = [str(seq), change['gtid'], *(None if it is None
+                                                else str(it) for it in (change.get('n'), change.get('ts'), committed)), kind[0]]
             lines.append([*head, *(before or target.nothing), *(after or target.nothing)])
-        self.insert(f'COPY {target.history} FROM STDIN', f'INSERT INTO {target.history} VALUES ({", ".join(["%s"] * len(lines[0]))})', lines)
+        self.insert(f'COPY {target.history} FROM STDIN', f'INSERT INTO {target.history} VALUES '
+                                                         f'({", ".join(["%s"] * len(lines[0]))})', lines)
         self.seq += len(lines)
 
     def refused(self, target: PostgresTable, entries: List[Entry], error: 'psycopg.Error') -> NoReturn:
         """Ends for a row that the database does not take. Of one change it looks which column it is."""
         if isinstance(error, psycopg.errors.UniqueViolation):
-            self.refuse(target, entries[0], 'a row with this key is there already: this is not the sink of this feed, or it was changed')
+            self.refuse(target, entries[0], 'a row with this key is there already: this is not the sink of this feed, or it was '
+                                            'changed')
         says = (error.diag.message_primary or str(error)).strip()
         if len(entries) == 1:
             self.roll_back()
@@ -388,8 +415,10 @@ class PostgresSink(SqlSink[PostgresTable]):
                 try:
                     self.connect().execute(f'SELECT CAST(%s AS {kind})', [value])
                 except psycopg.DataError:
-                    way = 'leave the table out by --only' if kind == 'text' else f'--as-text {target.title}.{name} makes it a text, in a new sink'
-                    self.refuse(target, entries[0], f'the column {shown(name)} of type {kind} does not take {shown(value)}: {way}')
+                    way = f'--as-text {target.title}.{name} makes it a text, in a new sink'
+                    way = 'leave the table out by --only' if kind == 'text' else way
+                    self.refuse(target, entries[0], f'the column {shown(name)} of type {kind} does not take {shown(value)}: '
+                                                    f'{way}')
         self.refuse(target, entries[0], f'PostgreSQL does not take the row ({says})')
 
 

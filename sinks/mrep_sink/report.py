@@ -58,7 +58,8 @@ class Report:
         ]
         if self.ts is not None:
             rows.append(('last_change_seconds', 'gauge', 'When the statement of the last change began, since 1970', '', self.ts))
-            rows.append(('lag_seconds', 'gauge', 'How long that was before this file was written', '', max(0, int(time.time()) - self.ts)))
+            rows.append(('lag_seconds', 'gauge', 'How long that was before this file was written', '',
+                         max(0, int(time.time()) - self.ts)))
         text = ''.join(f'# HELP mrep_sink_{name} {about}\n# TYPE mrep_sink_{name} {kind}\nmrep_sink_{name}{labels} {value}\n'
                        for name, kind, about, labels, value in rows)
         try:

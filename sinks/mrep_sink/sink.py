@@ -94,19 +94,22 @@ class SqlSink(Sink, Generic[T]):
             if place not in self.targets:
                 raise Fault(f'{self.where}: it has the table {title}, whose changes would be lost: name it by --only too')
             if place not in made:
-                raise Fault(f'{self.where}: it was made without the table {title}, whose rows from before are missing: leave it out by --only, '
+                raise Fault(f'{self.where}: it was made without the table {title}, whose rows from before are missing: leave it '
+                            f'out by --only, '
                             'or begin a new sink')
         return [target for place, target in self.targets.items() if made[place] != target.description]
 
     def has_rows(self, target: T) -> NoReturn:
-        raise Fault(f'{target.title}: it has rows of another description: give the older one until they are gone from the feed, as by '
+        raise Fault(f'{target.title}: it has rows of another description: give the older one until they are gone from the feed, '
+                    f'as by '
                     '`mrep clear --changes`, or begin a new sink')
 
     def leave_out(self, change: Item) -> None:
         """A change of a table that is not wanted. Without `--only` all are."""
         place = (change['schema'], change['table'])
         if not self.options.only and place not in self.described:
-            raise Fault(f'{shown(".".join(place))[1:-1]}: the feed has rows of it, and it is not described: fetch the description, '
+            raise Fault(f'{shown(".".join(place))[1:-1]}: the feed has rows of it, and it is not described: fetch the '
+                        f'description, '
                         'or name the tables that are wanted by --only')
 
     def refuse(self, target: Target, entry: Entry, why: str) -> NoReturn:

@@ -45,7 +45,8 @@ class SqliteTable(Target):
         if self.large_at:
             self.values = self.values_for_any
         has_rowid = [types[at] for at in table.keys] == ['INTEGER']
-        columns = [f'{quoted(it.name)} {kind}' + (' PRIMARY KEY' if has_rowid else ' NOT NULL') * it.is_key for it, kind in zip(table.columns, types)]
+        columns = [f'{quoted(it.name)} {kind}' + (' PRIMARY KEY' if has_rowid else ' NOT NULL') * it.is_key
+                   for it, kind in zip(table.columns, types)]
         if table.keys and not has_rowid:
             columns.append(f'PRIMARY KEY ({", ".join(map(quoted, table.key_names))})')
         into = quoted(self.name)
@@ -53,7 +54,8 @@ class SqliteTable(Target):
         where = ' AND '.join(f'{quoted(name)} = ?' for name in table.key_names)
         free = [it for it in ('rowid', '_rowid_', 'oid') if it not in [name.lower() for name in table.names]]
         if not table.keys and not free:
-            raise Fault(f'{self.title}: it has no key, and columns with all three names of the row number of SQLite: --only names the other tables', USAGE)
+            raise Fault(f'{self.title}: it has no key, and columns with all three names of the row number of SQLite: --only '
+                        f'names the other tables', USAGE)
         self.rowid = free[0] if free else ''
         where = where or f'{self.rowid} = ?'
         self.insertion = f'INSERT INTO {into} VALUES ({", ".join("?" * len(types))})'
@@ -63,12 +65,14 @@ class SqliteTable(Target):
         # Of a table without a key: its rows by their digests.
         self.rows_name = f'{OURS}rows.{self.name}'
         rows = quoted(self.rows_name)
-        self.rows_creation = f'CREATE TABLE {rows} ("digest" BLOB, "row" INTEGER, PRIMARY KEY ("digest", "row")) STRICT, WITHOUT ROWID'
+        self.rows_creation = (f'CREATE TABLE {rows} ("digest" BLOB, "row" INTEGER, PRIMARY KEY ("digest", "row")) '
+                              'STRICT, WITHOUT ROWID')
         self.rows_insertion = f'INSERT INTO {rows} VALUES (?, ?)'
         self.rows_deletion = f'DELETE FROM {rows} WHERE "digest" = ? AND "row" = ?'
         self.rows_selection = f'SELECT "row" FROM {rows} WHERE "digest" = ? LIMIT 1'
         self.history_name = f'{OURS}history.{self.name}'
-        sides = [f'{quoted(f"{side}_{it.name}")} {kind}' for side in ('before', 'after') for it, kind in zip(table.columns, types)]
+        sides = [f'{quoted(f"{side}_{it.name}")} {kind}' for side in ('before', 'after')
+                 for it, kind in zip(table.columns, types)]
         self.history_columns = len(HISTORY) + len(sides)
         self.history_creation = f'CREATE TABLE {quoted(self.history_name)} ({", ".join([*HISTORY, *sides])}) STRICT'
         self.history_insertion = f'INSERT INTO {quoted(self.history_name)} VALUES ({", ".join("?" * self.history_columns)})'
@@ -84,8 +88,10 @@ class SqliteTable(Target):
 
     def history_indexes(self) -> List[str]:
         """The statements that make the indexes of a history by its keys."""
-        sides = [(side, [quoted(f'{side}_{name}') for name in self.table.key_names]) for side in ('before', 'after')] if self.table.keys else []
-        return [f'CREATE INDEX {quoted(f"{OURS}history_{side}.{self.name}")} ON {quoted(self.history_name)} ({", ".join(names)}, "seq")' for side, names in sides]
+        sides = [(side, [quoted(f'{side}_{name}') for name in self.table.key_names])
+                 for side in ('before', 'after')] if self.table.keys else []
+        return [f'CREATE INDEX {quoted(f"{OURS}history_{side}.{self.name}")} ON {quoted(self.history_name)} '
+                f'({", ".join(names)}, "seq")' for side, names in sides]
 
 
 def check_names(tables: Iterable[Table], has_history: bool) -> None:
@@ -98,7 +104,8 @@ def check_names(tables: Iterable[Table], has_history: bool) -> None:
         if any('\0' in it for it in (name, *table.names)):
             why = 'a name with a NUL, which SQLite does not take'
         elif name.startswith('sqlite_') or name.startswith(OURS):
-            why = f'a name that begins with {name[:name.index("_") + 1]}, which {"SQLite" if name.startswith("sqlite_") else "the sink"} keeps for itself'
+            keeper = 'SQLite' if name.startswith('sqlite_') else 'the sink'
+            why = f'a name that begins with {name[:name.index("_") + 1]}, which {keeper} keeps for itself'
         elif name in found:
             why = f'SQLite takes its name and that of {found[name].title} for the same'
         elif len({it.encode().lower() for it in table.names}) < len(table.names):
@@ -137,7 +144,8 @@ class SqliteSink(SqlSink[SqliteTable]):
     def begin(self) -> None:
         """Makes the tables, or looks whether they are those that are wanted, and reads the place."""
         self.base.execute('BEGIN IMMEDIATE')
-        tables = {name: sql for name, sql in self.base.execute("SELECT name, sql FROM sqlite_schema WHERE type = 'table' AND name NOT LIKE 'sqlite\\_%' ESCAPE '\\'")}
+        tables = {name: sql for name, sql in self.base.execute("SELECT name, sql FROM sqlite_schema WHERE type = 'table' AND "
+                                                               "name NOT LIKE 'sqlite\\_%' ESCAPE '\\'")}
         if not tables:
             for statement in (PLACE, "INSERT INTO mrep_place VALUES ('', '')", STATE, COLUMNS):
                 self.base.execute(statement)
@@ -145,7 +153,8 @@ class SqliteSink(SqlSink[SqliteTable]):
             for target in self.targets.values():
                 self.make(target)
         elif tables.get('mrep_place') != PLACE:
-            raise Fault(f'{self.options.to}: it has tables and no place in a feed: `mrep export --place` makes a file that has one'
+            raise Fault(f'{self.options.to}: it has tables and no place in a feed: `mrep export --place` makes a file that has '
+                        f'one'
                         if 'spans' not in tables else f'{self.options.to}: it is a database of mrep itself')
         elif 'mrep_sink' not in tables:
             self.begin_exported(tables)
@@ -183,7 +192,9 @@ class SqliteSink(SqlSink[SqliteTable]):
             self.base.execute(statement)
         seq: int = self.base.execute('SELECT seq FROM mrep_sink').fetchone()[0]
         rows = self.base.execute(target.selection)
-        made = self.base.executemany(target.history_insertion, ((seq + at, None, None, None, None, 'r', *target.nothing, *values) for at, values in enumerate(rows, 1)))
+        made = self.base.executemany(target.history_insertion,
+                                     ((seq + at, None, None, None, None, 'r', *target.nothing, *values)
+                                      for at, values in enumerate(rows, 1)))
         self.base.execute('UPDATE mrep_sink SET seq = seq + ?', (max(made.rowcount, 0),))
 
     def begin_exported(self, tables: Dict[str, str]) -> None:
@@ -191,9 +202,11 @@ class SqliteSink(SqlSink[SqliteTable]):
         mine = {target.name: target for target in self.targets.values()}
         for name in sorted({*mine, *tables} - {'mrep_place'}):
             if name not in tables:
-                raise Fault(f'{self.options.to}: it has no table {name}, whose rows from before are missing: export it with the others, or leave it out by --only')
+                raise Fault(f'{self.options.to}: it has no table {name}, whose rows from before are missing: export it with the '
+                            f'others, or leave it out by --only')
             if name not in mine:
-                raise Fault(f'{self.options.to}: it has the table {name}, which is not wanted: export the tables that are wanted, without --schema')
+                raise Fault(f'{self.options.to}: it has the table {name}, which is not wanted: export the tables that are '
+                            f'wanted, without --schema')
             if tables[name] != mine[name].creation:
                 raise Fault(mine[name].table.unfit(f'{self.options.to} has it with other columns'))
         for statement in (STATE, COLUMNS):
@@ -223,7 +236,8 @@ class SqliteSink(SqlSink[SqliteTable]):
             seq = self.base.execute('SELECT seq FROM mrep_sink').fetchone()[0]
             for side in ('before', 'after'):
                 self.base.execute(f'DROP INDEX IF EXISTS {quoted(f"{OURS}history_{side}.{target.name}")}')
-            self.base.execute(f'ALTER TABLE {quoted(target.history_name)} RENAME TO {quoted(f"{target.history_name}.until.{seq}")}')
+            self.base.execute(f'ALTER TABLE {quoted(target.history_name)} RENAME TO '
+                              f'{quoted(f"{target.history_name}.until.{seq}")}')
         self.make(target)
 
     def write(self, batch: List[Transaction], after: Place, is_careful: bool) -> None:
@@ -231,7 +245,8 @@ class SqliteSink(SqlSink[SqliteTable]):
         try:
             self.base.execute('BEGIN IMMEDIATE')
             self.use(batch, is_careful)
-            changed = self.base.execute('UPDATE mrep_place SET place = ?, executed = ? WHERE place = ? AND executed = ?', (*after, *self.stored))
+            changed = self.base.execute('UPDATE mrep_place SET place = ?, executed = ? WHERE place = ? AND executed = ?',
+                                        (*after, *self.stored))
             if changed.rowcount != 1:
                 raise Fault('another process has used the feed meanwhile')
             if self.seq != seq:
@@ -260,12 +275,14 @@ class SqliteSink(SqlSink[SqliteTable]):
                 self.change_keyed(target, kind, entries)
         except (sqlite3.IntegrityError, sqlite3.DataError) as error:
             unique = 'UNIQUE' in str(error)
-            self.refuse(target, entries[0], 'a row with this key is there already: this is not the sink of this feed, or it was changed'
+            self.refuse(target, entries[0], 'a row with this key is there already: this is not the sink of this feed, or it was '
+                                            'changed'
                         if unique else f'SQLite does not take the row ({error})')
         if self.options.history:
             lines = []
             for seq, (before, after, change, committed) in enumerate(entries, self.seq + 1):
-                lines.append((seq, change['gtid'], change.get('n'), change.get('ts'), committed, kind[0], *(before or target.nothing), *(after or target.nothing)))
+                lines.append((seq, change['gtid'], change.get('n'), change.get('ts'), committed, kind[0],
+                              *(before or target.nothing), *(after or target.nothing)))
             self.base.executemany(target.history_insertion, lines)
             self.seq += len(lines)
 
@@ -274,9 +291,11 @@ class SqliteSink(SqlSink[SqliteTable]):
         if kind == 'insert':
             done = self.base.executemany(target.insertion, [after for _, after, _, _ in entries])  # type: ignore[misc]
         elif kind == 'update':
-            done = self.base.executemany(target.update, [(*after, *key_of(before)) for before, after, _, _ in entries])  # type: ignore[misc, arg-type]
+            moved = [(*(after or ()), *key_of(before or [])) for before, after, _, _ in entries]
+            done = self.base.executemany(target.update, moved)
         else:
-            done = self.base.executemany(target.deletion, [key_of(before) for before, _, _, _ in entries])  # type: ignore[arg-type]
+            done = self.base.executemany(target.deletion,
+                                         [key_of(before) for before, _, _, _ in entries])  # type: ignore[arg-type]
         if done.rowcount != len(entries):
             self.refuse(target, entries[0], 'there is no row with this key: this is not the sink of this feed, or it was changed')
 
@@ -292,7 +311,8 @@ class SqliteSink(SqlSink[SqliteTable]):
             if not there:
                 self.refuse(target, entry, 'there is no such row: this is not the sink of this feed, or it was changed')
             if digest_of(there) != digest:
-                self.refuse(target, entry, f'its rows have other numbers, as after VACUUM: DROP TABLE {quoted(target.rows_name)}, which is made anew at the next start')
+                self.refuse(target, entry, f'its rows have other numbers, as after VACUUM: DROP TABLE '
+                                           f'{quoted(target.rows_name)}, which is made anew at the next start')
             self.base.execute(target.rows_deletion, (digest, row))
         if kind == 'insert':
             assert after

@@ -12,20 +12,23 @@ from mrep import A, ROOT, Wrong, done, fail, same, sqlite3, write
 SINK = f'{ROOT}/sinks/mrep-sink'
 LEAST_SQLITE = (3, 37, 0)
 # A description, and the types of its tables in SQLite.
-ITEMS = [('shop', 'items', 'id', 'int', 'NULL', 'PRI'), ('shop', 'items', 'name', 'varchar(20)', 'utf8mb4', ''), ('shop', 'items', 'photo', 'blob', 'NULL', '')]
+ITEMS = [('shop', 'items', 'id', 'int', 'NULL', 'PRI'), ('shop', 'items', 'name', 'varchar(20)', 'utf8mb4', ''),
+         ('shop', 'items', 'photo', 'blob', 'NULL', '')]
 NOTES = [('shop', 'notes', 'a', 'int', 'NULL', ''), ('shop', 'notes', 'b', 'double', 'NULL', '')]
 
 
 def python_with(module):
     """A python3 that has a module: this one, or another that is installed; nothing if none has it."""
     for python in dict.fromkeys([sys.executable, '/usr/bin/python3', *sorted(glob.glob('/usr/bin/python3.[0-9]*'))]):
-        if os.access(python, os.X_OK) and not subprocess.run([python, '-c', f'import {module}'], capture_output=True, check=False).returncode:
+        if os.access(python, os.X_OK) and not subprocess.run([python, '-c', f'import {module}'], capture_output=True,
+                                                             check=False).returncode:
             return python
     return None
 
 
 def started(*words, python=sys.executable, **how):
-    return subprocess.Popen([python, SINK, *words], stdout=subprocess.PIPE, stderr=subprocess.PIPE, **{'stdin': subprocess.DEVNULL, **how})
+    return subprocess.Popen([python, SINK, *words], stdout=subprocess.PIPE, stderr=subprocess.PIPE,
+                            **{'stdin': subprocess.DEVNULL, **how})
 
 
 def sink(*words, status=0, says='', python=sys.executable, data=None):
@@ -55,7 +58,8 @@ def change(before, after, table='items', keys=('id',), **more):
     kind = 'update' if before and after else 'delete' if before else 'insert'
     row = before or after
     key = {'key': {name: row[name] for name in keys}} if keys else {}
-    return {'type': kind, 'schema': 'shop', 'table': table, **key, **({'before': before} if before else {}), **({'after': after} if after else {}), **more}
+    return {'type': kind, 'schema': 'shop', 'table': table, **key, **({'before': before} if before else {}),
+            **({'after': after} if after else {}), **more}
 
 
 def item(number, name='x', photo=None):
@@ -69,9 +73,11 @@ def note(a, b):
 def transaction(number, *changes, ends=True, source=A, at=1795811726):
     """The lines of a transaction."""
     gtid = f'{source}:{number}'
-    head = lambda n, it: {'type': it['type'], 'gtid': gtid, 'n': n, 'ts': at + number, **{name: value for name, value in it.items() if name != 'type'}}
+    head = lambda n, it: {'type': it['type'], 'gtid': gtid, 'n': n, 'ts': at + number,
+                          **{name: value for name, value in it.items() if name != 'type'}}
     lines = [compact(head(n, it)) for n, it in enumerate(changes)]
-    return b''.join(lines) + (compact({'type': 'commit', 'gtid': gtid, 'changes': len(changes), 'committed_us': (at + number) * 1000000, 'server': 1, 'xid': number}) if ends else b'')
+    return b''.join(lines) + (compact({'type': 'commit', 'gtid': gtid, 'changes': len(changes),
+                                       'committed_us': (at + number) * 1000000, 'server': 1, 'xid': number}) if ends else b'')
 
 
 class Held:
@@ -79,9 +85,12 @@ class Held:
 
     def __init__(self, path):
         base = sqlite3.connect(f'file:{path}?mode=ro', uri=True)
-        self.definitions = dict(base.execute("SELECT name, sql FROM sqlite_schema WHERE type = 'table' AND name NOT LIKE 'mrep\\_%' ESCAPE '\\'"))
-        self.rows = {name: sorted((tuple(row) for row in base.execute(f'SELECT * FROM "{name.replace(chr(34), chr(34) * 2)}"')), key=repr) for name in self.definitions}
-        place = base.execute('SELECT executed FROM mrep_place').fetchall() if base.execute("SELECT 1 FROM sqlite_schema WHERE name = 'mrep_place'").fetchone() else [(None,)]
+        self.definitions = dict(base.execute("SELECT name, sql FROM sqlite_schema WHERE type = 'table' AND name NOT LIKE "
+                                             "'mrep\\_%' ESCAPE '\\'"))
+        self.rows = {name: sorted((tuple(row) for row in base.execute(f'SELECT * FROM "{name.replace(chr(34), chr(34) * 2)}"')),
+                                  key=repr) for name in self.definitions}
+        has_place = base.execute("SELECT 1 FROM sqlite_schema WHERE name = 'mrep_place'").fetchone()
+        place = base.execute('SELECT executed FROM mrep_place').fetchall() if has_place else [(None,)]
         same(f'{path}: places', len(place), 1)
         self.executed = place[0][0]
         same(f'{path} by sqlite3', base.execute('PRAGMA integrity_check').fetchall(), [('ok',)])
