@@ -2,7 +2,6 @@
 
 import gc
 import signal
-import sys
 from typing import Dict, List, Tuple
 
 from .description import Table, chosen

@@ -12,7 +12,7 @@ except ImportError as missing:
     raise Fault('this python3 has no psycopg 3, which PostgreSQL needs: python3-psycopg of Debian, or psycopg of PyPI',
                 USAGE) from missing
 
-from .description import BYTES, CHARACTERS, MEMBERS, Column, Table, digest_of
+from .description import Column, Table, digest_of
 from .faults import ACT, RETRY, USAGE, Fault, shown
 from .feed import Transaction, place_text, read_set
 from .options import Options

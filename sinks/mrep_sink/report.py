@@ -5,8 +5,7 @@ import sys
 import time
 from typing import Optional
 
-from .faults import RETRY, USAGE, Fault
-from .feed import Transaction
+from .faults import USAGE, Fault
 
 FIRST = '# HELP mrep_sink_transactions_total '
 

@@ -273,7 +273,7 @@ class SqliteSink(SqlSink[SqliteTable]):
                     self.change_unkeyed(target, kind, entry)
             else:
                 self.change_keyed(target, kind, entries)
-        except (sqlite3.IntegrityError, sqlite3.DataError) as error:
+        except (sqlite3.IntegrityError, sqlite3.DataError, OverflowError) as error:
             unique = 'UNIQUE' in str(error)
             self.refuse(target, entries[0], 'a row with this key is there already: this is not the sink of this feed, or it was '
                                             'changed'

@@ -3,11 +3,10 @@
 import glob
 import json
 import os
-import shutil
 import subprocess
 import sys
 
-from mrep import A, ROOT, Wrong, done, fail, same, sqlite3, write
+from mrep import A, ROOT, fail, same, sqlite3
 
 SINK = f'{ROOT}/sinks/mrep-sink'
 LEAST_SQLITE = (3, 37, 0)
