@@ -72,6 +72,7 @@ fn add_rows<T: Alter>(
         let cause = Error::SqliteFailure(ErrorCode::TransactionState);
         return Err(of_sqlite(alloc, to, cause));
     }
+    let has_place = tables.has_place();
     let rows = match ExportedRows::begin(alloc, tables, chosen, conn) {
         Ok(rows) => rows,
         Err(cause) => return Err(of_sqlite(alloc, to, cause)),
@@ -79,7 +80,7 @@ fn add_rows<T: Alter>(
     let mut added = Added {
         alloc,
         rows,
-        has_place: tables.has_place(),
+        has_place,
         is_empty: true,
         executed: None,
         following: Follow::all(alloc),
