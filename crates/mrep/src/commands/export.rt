@@ -112,6 +112,7 @@ fn fill_from(
         copy: source.names.file.as_str(),
         to,
         db,
+        has_place: export.tables.has_place(),
     };
     let notes = export_rows(rt, copied, part.names.file.as_str(), export)?;
     match finish(part, source) {

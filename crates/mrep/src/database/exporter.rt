@@ -20,6 +20,8 @@ pub struct Source<'p, 'a> {
     pub copy: &'p str,
     pub to: &'a str,
     pub db: &'a str,
+    /// Whether the table of the place is made too.
+    pub has_place: bool,
 }
 
 /// Makes tables of a new database in an empty file, whose path is `part`, with the rows of a copy of a database, and closes both.
@@ -67,12 +69,16 @@ fn add_rows<T: Alter>(
     conn: &mut Connection<T>,
 ) -> Result<Found, Failure> {
     let alloc = rt.alloc();
-    let Source { to, db, .. } = source;
+    let Source {
+        to,
+        db,
+        has_place,
+        ..
+    } = source;
     if !conn.is_autocommit() {
         let cause = Error::SqliteFailure(ErrorCode::TransactionState);
         return Err(of_sqlite(alloc, to, cause));
     }
-    let has_place = tables.has_place();
     let rows = match ExportedRows::begin(alloc, tables, chosen, conn) {
         Ok(rows) => rows,
         Err(cause) => return Err(of_sqlite(alloc, to, cause)),
@@ -109,7 +115,7 @@ fn give_rows<T: Alter>(
     source: Source<'_, '_>,
     added: &mut Added<'_, '_, T>,
 ) -> Result<(), Failure> {
-    let Source { copy, to, db } = source;
+    let Source { copy, to, db, .. } = source;
     let done = match list_file(rt, copy, Unknown, added) {
         Ok(done) => done,
         Err(unopened) => return Err(unopened_copy(rt, copy, to, db, unopened)),
