@@ -69,43 +69,38 @@ fn add_rows<T: Alter>(
     conn: &mut Connection<T>,
 ) -> Result<Found, Failure> {
     let alloc = rt.alloc();
-    let Source {
-        to,
-        db,
-        has_place,
-        ..
-    } = source;
     if !conn.is_autocommit() {
         let cause = Error::SqliteFailure(ErrorCode::TransactionState);
-        return Err(of_sqlite(alloc, to, cause));
+        return Err(of_sqlite(alloc, source.to, cause));
     }
-    let rows = match ExportedRows::begin(alloc, tables, chosen, conn) {
-        Ok(rows) => rows,
-        Err(cause) => return Err(of_sqlite(alloc, to, cause)),
-    };
+    match ExportedRows::begin(alloc, tables, chosen, conn) {
+        Ok(rows) => fill_tables(rt, source, rows),
+        Err(cause) => Err(of_sqlite(alloc, source.to, cause)),
+    }
+}
+
+/// Adds the rows of a copy of a database to tables that were made, and commits them.
+fn fill_tables<T: Alter>(
+    rt: &HostRuntime,
+    source: Source<'_, '_>,
+    rows: ExportedRows<'_, '_, T>,
+) -> Result<Found, Failure> {
+    let alloc = rt.alloc();
     let mut added = Added {
         alloc,
         rows,
-        has_place,
+        has_place: source.has_place,
         is_empty: true,
-        executed: None,
+        executed: String::new(alloc),
         following: Follow::all(alloc),
     };
-    give_rows(rt, source, &mut added)?;
-    let Added {
-        rows,
-        is_empty,
-        executed,
-        following,
-        ..
-    } = added;
-    match rows.finish(executed.as_deref()) {
-        Ok(chosen) => Ok(Found {
-            chosen,
-            is_empty,
-            following,
-        }),
-        Err(error) => Err(of_table(alloc, [db, to], error)),
+    // Where that fails, the file is removed, with what is committed here.
+    let given = give_rows(rt, source, &mut added);
+    let found = added.finish();
+    given?;
+    match found {
+        Ok(found) => Ok(found),
+        Err(error) => Err(of_table(alloc, [source.db, source.to], error)),
     }
 }
 
@@ -156,16 +151,41 @@ struct Added<'d, 'c, T: Alter> {
     has_place: bool,
     is_empty: bool,
     /// The executed set as a text, where it is asked for.
-    executed: Option<String>,
+    executed: String,
     following: Follow,
 }
 
 impl<T: Alter> Added<'_, '_, T> {
+    /// Commits what was added, with the executed set in the table of the place where there is one.
+    fn finish(self) -> Result<Found, TableError> {
+        let Added {
+            rows,
+            has_place,
+            is_empty,
+            executed,
+            following,
+            ..
+        } = self;
+        let done = if has_place {
+            rows.finish(Some(executed.as_str()))
+        } else {
+            rows.finish(None)
+        };
+        match done {
+            Ok(chosen) => Ok(Found {
+                chosen,
+                is_empty,
+                following,
+            }),
+            Err(error) => Err(error),
+        }
+    }
+
     /// Keeps what the database has executed.
     fn keep(&mut self, executed: &GtidSet, following: &Follow) -> Result<(), AllocError> {
         self.is_empty = executed.is_subset(&GtidSet::new(self.alloc));
         if self.has_place {
-            self.executed = Some(text_of(self.alloc, executed)?);
+            self.executed = text_of(self.alloc, executed)?;
         }
         match Follow::new(self.alloc, following.names()) {
             Ok(following) => {
