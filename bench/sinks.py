@@ -133,7 +133,7 @@ def in_sqlite(work, columns):
                      library(f'{work}/{size}{len(words)}-library', CHANGES, 1, size))
     for count in (100_000, 1_000_000):
         name = feed(f'{work}/feed', count, 10)
-        bad += shown('the same, in transactions of ten', count, 40_000,
+        bad += shown('`mrep-sink sqlite`, transactions of ten', count, 40_000,
                      *measured(sys.executable, 'sqlite', f'{work}/{count}-TURN', '--columns', columns, name))
     return bad
 
