@@ -399,9 +399,9 @@ class Reader:
         used = self.ended({'type': 'commit', 'gtid': gtid}) if is_done else Transaction([], {}, self.form, NOTHING)
         if not has(self.used, executed):
             if not self.adopt:
-                raise Fault(f'the database has {item["executed"]}, and its feed gave {print_set(self.used)} (a file of the feed is '
-                            'missing: give all, the oldest first; or they were skipped or adopted, which --adopt takes; or a pipe '
-                            'has lost them: begin anew)')
+                raise Fault(f'the database has {item["executed"]}, and its feed gave {print_set(self.used)} (a file of the feed '
+                            'is missing: give all, the oldest first; or they were skipped or adopted, which --adopt takes; or a '
+                            'pipe has lost them: begin anew)')
             add(self.used, executed)
             used.adds.append(executed)
             self.adopt = False
