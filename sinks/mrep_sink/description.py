@@ -68,6 +68,11 @@ class Table:
         # The types of the values of rows that fit.
         self.fitting: Set[Tuple[type, ...]] = set()
 
+    def check(self, row: Dict[str, Any], form: str) -> None:
+        """Refuses a row of the feed that `values` refuses."""
+        if self.bytes_at or tuple(row) != self.names or tuple(map(type, row.values())) not in self.fitting:
+            self.values(row, form)
+
     def values(self, row: Dict[str, Any], form: str) -> List[Any]:
         """The values of a row of the feed, with bytes as such. It has the columns of the description, in order."""
         if tuple(row) != self.names:

@@ -50,6 +50,9 @@ scan = json.JSONDecoder().scan_once  # type: ignore[attr-defined]
 def read_set(printed: str) -> GtidSet:
     """A printed set, or one GTID."""
     found: GtidSet = {}
+    source, _, number = printed.partition(':')
+    if number.isdecimal():
+        return {source: [[int(number), int(number)]]}
     for item in filter(None, printed.split(',')):
         source, *spans = item.split(':')
         found[source] = [[int(number) for number in (span.split('-') * 2)[:2]] for span in spans]
@@ -68,6 +71,8 @@ def has(found: GtidSet, other: GtidSet) -> bool:
         if not spans:
             return not wanted
         for lo, hi in wanted:
+            if hi > spans[-1][1]:
+                return False
             at = bisect_right(spans, [lo, sys.maxsize]) - 1
             if at < 0 or spans[at][1] < hi:
                 return False
@@ -173,10 +178,11 @@ class Kept:
             self.is_in_order = False
         self.count = count + 1
         self.size += end - begin
-        if count and self.spans[-1][2] == begin and self.spans[-1][0] is file:
-            self.spans[-1] = (file, self.spans[-1][1], end)
+        spans = self.spans
+        if count and spans[-1][2] == begin and spans[-1][0] is file:
+            spans[-1] = (file, spans[-1][1], end)
         else:
-            self.spans.append((file, begin, end))
+            spans.append((file, begin, end))
         if self.size <= LARGE:
             self.items.append(item)
         else:
@@ -322,11 +328,12 @@ class Reader:
         # With a buffer of its own, which has nothing that was cut off.
         with open(os.dup(file.fileno()), 'rb') as lines:
             lines.seek(at)
+            take = self.take
             for line in lines:
-                if not line.endswith(b'\n'):
+                if line[-1:] != b'\n':
                     break
                 begin, at = at, at + len(line)
-                used = self.take(line, begin, at, file, name)
+                used = take(line, begin, at, file, name)
                 if used is not None:
                     self.begin, self.kept, self.end = at, NOTHING, (begin, at, line)
                     used.end = self.end

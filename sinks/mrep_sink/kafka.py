@@ -15,7 +15,7 @@ except ImportError as missing:
 
 from .description import Table
 from .faults import RETRY, USAGE, Fault
-from .feed import LINE, Item, Transaction, place_text, print_set, read_set
+from .feed import LARGE, LINE, Item, Transaction, place_text, print_set, read_set
 from .options import Options
 from .report import Report
 from .sink import Place, SqlSink, Target
@@ -39,22 +39,34 @@ def compact(value: Any) -> bytes:
     return encode(value).encode()
 
 
-def key_text(table: Table, row: Optional[Dict[str, Any]]) -> Optional[bytes]:
-    return compact({name: row[name] for name in table.key_names}) if row and table.keys else None
-
-
 class Topic(Target):
     """The topic of a table."""
 
     def __init__(self, table: Table, prefix: str) -> None:
         super().__init__(table)
         self.topic = f'{prefix}.{escaped(table.schema)}.{escaped(table.name)}'
+        # Without a key there is one partition, so that an insert stands before its delete.
+        self.partition = -1 if table.keys else 0
+        # The columns of the key, each with what stands before its value.
+        self.key_parts = [(('{' if at == 0 else ',') + encode(name) + ':', name) for at, name in enumerate(table.key_names)]
+
+    def key_of(self, row: Dict[str, Any]) -> Optional[bytes]:
+        """The key of a row as JSON; nothing where the table has none."""
+        if not self.key_parts:
+            return None
+        text = ''
+        for begin, name in self.key_parts:
+            value = row[name]
+            text += begin + (str(value) if type(value) is int else encode(value))
+        return (text + '}').encode()
 
 
 class KafkaSink(SqlSink[Topic]):
     """A cluster of Kafka."""
 
     keeps_lines = True
+    # Each commit waits for the answers of the brokers.
+    batch_bytes = 2 * LARGE
 
     def __init__(self, described: Dict[Tuple[str, str], Table], wanted: Dict[Tuple[str, str], Table], options: Options,
                  report: Report) -> None:
@@ -75,6 +87,7 @@ class KafkaSink(SqlSink[Topic]):
                 raise Fault(f'--setting {word}: NAME=VALUE is meant', USAGE)
             self.settings[name] = value
         self.failure: Optional[Fault] = None
+        self.is_feed = options.envelope == 'feed'
         try:
             self.begin()
         except KafkaException as error:
@@ -224,46 +237,44 @@ class KafkaSink(SqlSink[Topic]):
 
     def send(self, transaction: Transaction) -> None:
         """The messages of a transaction, each with the place that it has in it, and its end."""
-        count = len(transaction)
+        count, form, targets, is_feed = len(transaction), transaction.form, self.targets, self.is_feed
+        gtid, changes = ('gtid', transaction.kept.gtid.encode()), ('changes', str(count).encode())
         for change in transaction:
-            target = self.targets.get((change['schema'], change['table']))
+            target = targets.get((change['schema'], change['table']))
             if target is None:
                 self.leave_out(change)
                 continue
-            for side in ('before', 'after'):
-                if side in change:
-                    target.table.values(change[side], transaction.form)
-            self.send_change(target, change, [('gtid', change['gtid'].encode()), ('n', str(change.get('n', '')).encode()),
-                                              ('changes', str(count).encode())], transaction)
-        if transaction.adds:
-            for gtids in transaction.adds:
-                value = {'gtid': print_set(gtids), 'changes': count,
-                         **{name: it for name, it in transaction.commit.items() if name in ('committed_us', 'server', 'xid')}}
-                self.produce(self.ends_topic, None, compact(value), [], 0)
+            before, after = change.get('before'), change.get('after')
+            if before:
+                target.table.check(before, form)
+            if after:
+                target.table.check(after, form)
+            old = target.key_of(before) if before else None
+            key = target.key_of(after) if after else old
+            headers = [gtid, ('n', str(change.get('n', '')).encode()), changes]
+            if old and key and old != key:
+                self.move(target, change, old, key, headers, transaction)
+                continue
+            value = change[LINE][:-1] if is_feed else self.value(change, before, after, transaction)
+            self.produce(target.topic, key, value, headers, target.partition)
+            if old and not after:
+                self.produce(target.topic, old, None, headers)
+        for gtids in transaction.adds:
+            value = {'gtid': print_set(gtids), 'changes': count,
+                     **{name: it for name, it in transaction.commit.items() if name in ('committed_us', 'server', 'xid')}}
+            self.produce(self.ends_topic, None, compact(value), [], 0)
 
-    def send_change(self, target: Topic, change: Item, headers: Headers, transaction: Transaction) -> None:
-        """The messages of a change. One that changes the key is a delete and an insert, each of which names the other one."""
-        table, before, after = target.table, change.get('before'), change.get('after')
-        old, new = key_text(table, before), key_text(table, after)
-        if old and new and old != new:
-            self.produce(target.topic, old, self.value({**change, 'type': 'delete'}, before, None, transaction),
-                         [*headers, ('new_key', new)])
-            self.produce(target.topic, old, None, [*headers, ('new_key', new)])
-            self.produce(target.topic, new, self.value({**change, 'type': 'insert'}, None, after, transaction),
-                         [*headers, ('old_key', old)])
-            return
-        # Without a key there is one partition, so that an insert stands before its delete.
-        partition = -1 if table.keys else 0
-        self.produce(target.topic, new or old, self.value(change, before, after, transaction), headers, partition)
-        if old and not after:
-            self.produce(target.topic, old, None, headers)
+    def move(self, target: Topic, change: Item, old: bytes, new: bytes, headers: Headers, transaction: Transaction) -> None:
+        """The messages of an update that changes the key: a delete and an insert, each of which names the other key."""
+        before, after, to_new = change['before'], change['after'], [*headers, ('new_key', new)]
+        self.produce(target.topic, old, self.value({**change, 'type': 'delete'}, before, None, transaction), to_new)
+        self.produce(target.topic, old, None, to_new)
+        self.produce(target.topic, new, self.value({**change, 'type': 'insert'}, None, after, transaction),
+                     [*headers, ('old_key', old)])
 
     def value(self, change: Item, before: Any, after: Any, transaction: Transaction) -> bytes:
-        """What a message has."""
-        if self.options.envelope == 'feed' and change.get('before') is before and change.get('after') is after:
-            line: bytes = change[LINE]
-            return line[:-1]
-        if self.options.envelope == 'feed':
+        """What a message has where it is not the line as it is."""
+        if self.is_feed:
             kept = {name: it for name, it in change.items() if name not in (LINE, 'before', 'after')}
             return compact({**kept, **({'before': before} if before else {}), **({'after': after} if after else {})})
         committed = transaction.commit.get('committed_us')

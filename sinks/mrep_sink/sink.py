@@ -24,6 +24,7 @@ class Target:
 
     def __init__(self, table: Table) -> None:
         self.table, self.title = table, table.title
+        self.key_names = table.key_names
         # What it was made with.
         self.description = '\n'.join(table.lines)
         # Makes the values of a row of the feed.
@@ -39,6 +40,8 @@ class Sink:
     # The place, as the reader takes it, and the executed set, both as they were committed last; whether it needs the lines.
     held: Place
     keeps_lines = False
+    # From how many bytes of lines on a batch is given.
+    batch_bytes = LARGE
 
     def write(self, batch: List[Transaction], after: Place, is_careful: bool) -> None:
         """Commits a batch. After a fault nothing of it is there. A careful one says which change it is."""
@@ -64,11 +67,15 @@ class SqlSink(Sink, Generic[T]):
         target: Optional[T] = None
         kind = ''
         entries: List[Entry] = []
+        targets = self.targets
         for transaction in batch:
-            most = 1 if is_careful else max(1, min(self.most, RUN_BYTES * len(transaction) // (transaction.kept.size + 1)))
-            committed, form = transaction.commit.get('committed_us'), transaction.form
-            for change in transaction:
-                wanted = self.targets.get((change['schema'], change['table']))
+            kept, form = transaction.kept, transaction.form
+            if not kept.count:
+                continue
+            most = 1 if is_careful else max(1, min(self.most, RUN_BYTES * kept.count // (kept.size + 1)))
+            committed = transaction.commit.get('committed_us')
+            for change in kept:
+                wanted = targets.get((change['schema'], change['table']))
                 if wanted is None:
                     self.leave_out(change)
                     continue
@@ -78,7 +85,7 @@ class SqlSink(Sink, Generic[T]):
                     target, kind, entries = wanted, change['type'], []
                 before, after = change.get('before'), change.get('after')
                 entries.append((before and wanted.values(before, form), after and wanted.values(after, form), change, committed))
-                if tuple(change.get('key', ())) != wanted.table.key_names:
+                if tuple(change.get('key', ())) != wanted.key_names:
                     raise Fault(wanted.table.unfit('the feed has another key'))
         if target and entries:
             self.flush(target, kind, entries)
@@ -137,7 +144,7 @@ class Committer:
             if transaction is not IDLE:
                 batch.append(transaction)
                 size += transaction.kept.size
-                if len(batch) < self.options.batch and size < LARGE and time.monotonic() - begun < 1:
+                if len(batch) < self.options.batch and size < self.sink.batch_bytes and time.monotonic() - begun < 1:
                     continue
             self.commit(batch)
             size, begun = 0, time.monotonic()
