@@ -28,8 +28,9 @@ BULK = 20
 BEFORE = ('"seq" bigint PRIMARY KEY', '"gtid" text', '"n" integer', '"ts" bigint', '"committed_us" bigint', '"op" text')
 SESSION = ("SET client_min_messages = warning; SET client_encoding = 'UTF8'; SET TimeZone = 'UTC'; SET DateStyle = 'ISO, YMD'; "
            "SET IntervalStyle = 'postgres'; "
-           # A table of a run has no statistics, and each of its rows is to be found by the key.
-           "SET enable_hashjoin = off; SET enable_mergejoin = off; SET enable_seqscan = off")
+           # A table of a run has no statistics, and each of its rows is to be found by the key. Compiling that takes longer.
+           "SELECT set_config(name, 'off', false) FROM pg_settings WHERE name IN ('enable_hashjoin', 'enable_mergejoin', "
+           "'enable_seqscan', 'enable_material', 'jit')")
 SCHEMAS = '''CREATE SCHEMA IF NOT EXISTS mrep;
 CREATE TABLE IF NOT EXISTS mrep.place
     (name text PRIMARY KEY, place text NOT NULL, executed text NOT NULL, seq bigint NOT NULL, history boolean NOT NULL);
