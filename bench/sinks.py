@@ -2,11 +2,13 @@
 """What the sinks of `sinks/mrep-sink` take: changes a second, and the most memory, over a feed that is made here, beside the C
 library of SQLite with the same changes and COPY of PostgreSQL with the rows that are inserted. A table of an INT that is the key, a
 BIGINT, a DATETIME and three texts; of ten changes six are inserts, three updates and one a delete; where runs are long a
-transaction has changes of one kind. It prints rows of the table of README.md.
+transaction has changes of one kind. It prints rows of the table of README.md. That memory and speed stay as they are is measured
+up to MOST changes (1,000,000), in a feed that is 340 bytes a change.
 
-    bench/sinks.py [CHANGES]
+    bench/sinks.py [CHANGES [MOST [KIND]..]]
 """
 
+import itertools
 import json
 import os
 import sqlite3
@@ -23,11 +25,15 @@ import sinks
 from scripted import MEASURED
 
 CHANGES = int(sys.argv[1]) if len(sys.argv) > 1 else 200_000
+MOST = int(sys.argv[2]) if len(sys.argv) > 2 else 1_000_000
+KINDS = sys.argv[3:] or ['sqlite', 'postgres', 'kafka']
 A = '3e11fa47-71ca-11e1-9e33-c80aa9429562'
 TYPES = [('id', 'int', 'NULL', 'PRI'), ('big', 'bigint', 'NULL', ''), ('at', 'datetime', 'NULL', ''),
          *((f't{it}', 'varchar(80)', 'utf8mb4', '') for it in range(3))]
-# The most memory, in MiB, and of how many runs the best one counts.
-MEMORY, RUNS = 64, 2
+# The most memory, in MiB, of how many runs the best one counts, and from how many changes on there is one.
+MEMORY, RUNS, LONG = 64, 2, 1_000_000
+UP_TO = sorted({CHANGES, *[MOST] * (MOST > LONG)})
+compact = json.JSONEncoder(ensure_ascii=False, separators=(',', ':')).encode
 
 
 def row(number, step=0):
@@ -53,32 +59,34 @@ def changes(count, run):
             updated = max(first, updated)
 
 
+def commit(gtid, count):
+    return {'type': 'commit', 'gtid': f'{A}:{gtid}', 'changes': count, 'committed_us': 1795811726000000 + gtid, 'server': 1,
+            'xid': gtid}
+
+
 def feed(name, count, size, run=1):
     """A feed of so many changes in transactions of this size."""
-    compact = lambda item: json.dumps(item, ensure_ascii=False, separators=(',', ':')) + '\n'
     with open(name, 'w', encoding='utf-8') as file:
-        file.write(compact({'type': 'open', 'executed': '', 'bytes': 'base64'}))
+        write = lambda item: file.write(compact(item) + '\n')
+        write({'type': 'open', 'executed': '', 'bytes': 'base64'})
         at, gtid = 0, 0
         for rows, kind in changes(count, run):
             if at == 0:
                 gtid += 1
-            file.write(compact({'type': kind, 'gtid': f'{A}:{gtid}', 'n': at, 'ts': 1795811726, 'schema': 'shop',
-                                'table': 'items', **rows}))
+            write({'type': kind, 'gtid': f'{A}:{gtid}', 'n': at, 'ts': 1795811726, 'schema': 'shop', 'table': 'items', **rows})
             at += 1
             if at == size:
-                file.write(compact({'type': 'commit', 'gtid': f'{A}:{gtid}', 'changes': at,
-                                    'committed_us': 1795811726000000 + gtid, 'server': 1, 'xid': gtid}))
+                write(commit(gtid, at))
                 at = 0
         if at:
-            file.write(compact({'type': 'commit', 'gtid': f'{A}:{gtid}', 'changes': at, 'committed_us': 1795811726000000 + gtid,
-                                'server': 1, 'xid': gtid}))
+            write(commit(gtid, at))
     return name
 
 
-def measured(python, *words):
+def measured(count, python, *words):
     """The seconds of a run of the sink, its seconds of a processor, and its most memory in MiB; the least of RUNS runs."""
     found = []
-    for turn in range(RUNS):
+    for turn in range(RUNS if count < LONG else 1):
         to = [it.replace('TURN', str(turn)) for it in words]
         begun = time.time()
         ran = subprocess.run([python, '-c', MEASURED, python, sinks.SINK, *to], stdout=subprocess.DEVNULL, stderr=subprocess.PIPE,
@@ -106,11 +114,12 @@ def library(path, count, run, size):
     base = sqlite3.connect(path, isolation_level=None)
     base.executescript('PRAGMA journal_mode = WAL; PRAGMA synchronous = FULL; CREATE TABLE items (id INTEGER PRIMARY KEY, big '
                        'INTEGER, at TEXT, t0 TEXT, t1 TEXT, t2 TEXT) STRICT')
-    made = [(kind, tuple((rows.get('after') or {}).values()), rows['key']['id']) for rows, kind in changes(count, run)]
-    begun = time.time()
-    for at in range(0, count, 1000 * size):
+    seconds, left = 0, changes(count, run)
+    while made := [(kind, tuple((rows.get('after') or {}).values()), rows['key']['id'])
+                   for rows, kind in itertools.islice(left, 1000 * size)]:
+        begun = time.time()
         base.execute('BEGIN IMMEDIATE')
-        for kind, after, key in made[at:at + 1000 * size]:
+        for kind, after, key in made:
             if kind == 'insert':
                 base.execute('INSERT INTO items VALUES (?, ?, ?, ?, ?, ?)', after)
             elif kind == 'update':
@@ -118,24 +127,46 @@ def library(path, count, run, size):
             else:
                 base.execute('DELETE FROM items WHERE id = ?', (key,))
         base.execute('COMMIT')
+        seconds += time.time() - begun
     base.close()
-    return time.time() - begun
+    return seconds
+
+
+def removed(*names):
+    for name in names:
+        for end in ('', '-wal', '-shm'):
+            if os.path.exists(name + end):
+                os.remove(name + end)
 
 
 def in_sqlite(work, columns):
     bad = 0
-    for job, size, words, goal in (('transactions of ten', 10, [], 40_000), ('of one row', 1, [], 20_000),
-                                   ('of ten, `--history`', 10, ['--history'], 15_000),
-                                   ('of one row, `--history`', 1, ['--history'], 15_000)):
-        name = feed(f'{work}/feed', CHANGES, size)
-        found = measured(sys.executable, 'sqlite', f'{work}/{size}{len(words)}-TURN', '--columns', columns, *words, name)
-        bad += shown(f'`mrep-sink sqlite`, {job}', CHANGES, goal, *found,
-                     library(f'{work}/{size}{len(words)}-library', CHANGES, 1, size))
-    for count in (100_000, 1_000_000):
-        name = feed(f'{work}/feed', count, 10)
-        bad += shown('`mrep-sink sqlite`, transactions of ten', count, 40_000,
-                     *measured(sys.executable, 'sqlite', f'{work}/{count}-TURN', '--columns', columns, name))
+    for job, size, words, goal, counts in (('transactions of ten', 10, [], 40_000, sorted({100_000, CHANGES, LONG, MOST})),
+                                           ('of one row', 1, [], 20_000, [CHANGES]),
+                                           ('of ten, `--history`', 10, ['--history'], 15_000, [CHANGES]),
+                                           ('of one row, `--history`', 1, ['--history'], 15_000, [CHANGES])):
+        for count in counts:
+            name = feed(f'{work}/feed', count, size)
+            found = measured(count, sys.executable, 'sqlite', f'{work}/sink-TURN', '--columns', columns, *words, name)
+            removed(name, *(f'{work}/sink-{turn}' for turn in range(RUNS)))
+            bad += shown(f'`mrep-sink sqlite`, {job}', count, goal, *found, library(f'{work}/library', count, 1, size))
+            removed(f'{work}/library')
     return bad
+
+
+def copied(server, base, work, count, run):
+    """How many rows are inserted, and the seconds of COPY for them."""
+    server.psql(base, 'CREATE TABLE copied (LIKE shop.items INCLUDING ALL)')
+    rows = 0
+    with open(f'{work}/rows', 'w', encoding='utf-8') as file:
+        for it, kind in changes(count, run):
+            if kind == 'insert':
+                rows += 1
+                file.write('\t'.join(map(str, it['after'].values())) + '\n')
+    os.chmod(f'{work}/rows', 0o644)
+    begun = time.time()
+    server.psql(base, f"\\copy copied FROM '{work}/rows'")
+    return rows, time.time() - begun
 
 
 def in_postgres(work, columns):
@@ -146,49 +177,52 @@ def in_postgres(work, columns):
         return 0
     server, bad = postgres.Server(work), 0
     try:
-        for number, (job, size, run) in enumerate((('runs of 1,000 of one kind', 1000, 1000), ('transactions of ten', 10, 1))):
-            name = feed(f'{work}/feed', CHANGES, size, run)
+        for job, size, run, count, goal in (*(('runs of 1,000 of one kind', 1000, 1000, count, 15_000) for count in UP_TO),
+                                            ('transactions of ten', 10, 1, CHANGES, 0)):
+            name = feed(f'{work}/feed', count, size, run)
             for turn in range(RUNS):
-                server.make(f'base{number}{turn}')
-            found = measured(python, 'postgres', f'host={server.folder} user=postgres dbname=base{number}TURN', '--columns',
-                             columns, name)
-            server.psql(f'base{number}0', 'CREATE TABLE copied (LIKE shop.items INCLUDING ALL)')
-            rows = [rows['after'] for rows, kind in changes(CHANGES, run) if kind == 'insert']
-            with open(f'{work}/rows', 'w', encoding='utf-8') as file:
-                file.writelines('\t'.join(map(str, it.values())) + '\n' for it in rows)
-            os.chmod(f'{work}/rows', 0o644)
-            begun = time.time()
-            server.psql(f'base{number}0', f"\\copy copied FROM '{work}/rows'")
-            bad += shown(f'`mrep-sink postgres`, {job}, beside COPY of its {len(rows):,} rows', CHANGES, 15_000 if run > 1 else 0,
-                         *found, time.time() - begun)
+                server.make(f'base{turn}')
+            found = measured(count, python, 'postgres', f'host={server.folder} user=postgres dbname=baseTURN', '--columns', columns,
+                             name)
+            removed(name)
+            rows, seconds = copied(server, 'base0', work, count, run)
+            bad += shown(f'`mrep-sink postgres`, {job}, beside COPY of its {rows:,} rows', count, goal, *found, seconds)
+            for turn in range(RUNS):
+                server.psql('postgres', f'DROP DATABASE base{turn}')
     finally:
         server.stop()
     return bad
 
 
 def in_kafka(work, columns):
-    python = sinks.python_with('confluent_kafka')
+    python, bad = sinks.python_with('confluent_kafka'), 0
     if not python:
         print('sinks: Kafka is left out, since no python3 here has confluent_kafka', flush=True)
         return 0
     mock = ("import sys\nfrom confluent_kafka import Producer\np = Producer({'bootstrap.servers': 'mock', "
             "'test.mock.num.brokers': 1, 'log_level': 0})\n"
             "print(','.join(f'{it.host}:{it.port}' for it in p.list_topics(timeout=30).brokers.values()), flush=True)\nsys.stdin.read()")
-    with subprocess.Popen([python, '-c', mock], stdin=subprocess.PIPE, stdout=subprocess.PIPE) as cluster:
-        brokers = cluster.stdout.readline().decode().strip()
-        name = feed(f'{work}/feed', CHANGES, 10)
-        found = measured(python, 'kafka', brokers, '--topics', 'tTURN', '--name', 'tTURN', '--unchecked', '--partitions', '4',
-                         '--columns', columns, name)
-        cluster.stdin.close()
-    return shown('`mrep-sink kafka`, transactions of ten, to the mock of its library', CHANGES, 30_000, *found)
+    for count in UP_TO:
+        with subprocess.Popen([python, '-c', mock], stdin=subprocess.PIPE, stdout=subprocess.PIPE) as cluster:
+            brokers = cluster.stdout.readline().decode().strip()
+            name = feed(f'{work}/feed', count, 10)
+            found = measured(count, python, 'kafka', brokers, '--topics', 'tTURN', '--name', 'tTURN', '--unchecked', '--partitions',
+                             '4', '--setting', 'log_level=0', '--columns', columns, name)
+            removed(name)
+            cluster.stdin.close()
+        bad += shown('`mrep-sink kafka`, transactions of ten, to the mock of its library', count, 30_000, *found)
+    return bad
 
 
 def main():
-    with tempfile.TemporaryDirectory(dir='/dev/shm' if os.path.isdir('/dev/shm') else None) as work:
+    # A long feed has some gigabytes, which memory may not have.
+    is_short = MOST <= LONG and os.path.isdir('/dev/shm')
+    with tempfile.TemporaryDirectory(dir='/dev/shm' if is_short else None) as work:
         columns = f'{work}/columns'
         with open(columns, 'w', encoding='utf-8') as file:
             file.writelines('\t'.join(['shop', 'items', *it]) + '\n' for it in TYPES)
-        bad = in_sqlite(work, columns) + in_postgres(work, columns) + in_kafka(work, columns)
+        bad = sum(found(work, columns) for name, found in (('sqlite', in_sqlite), ('postgres', in_postgres), ('kafka', in_kafka))
+                  if name in KINDS)
     return int(bad > 0)
 
 

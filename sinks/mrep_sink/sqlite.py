@@ -131,6 +131,8 @@ class SqliteSink(SqlSink[SqliteTable]):
             if not os.path.exists(options.to):
                 os.close(os.open(options.to, os.O_CREAT | os.O_RDWR, 0o600))
             self.base = sqlite3.connect(options.to, isolation_level=None, timeout=60)
+            # Used again for each run, which spares making one.
+            self.cursor = self.base.cursor()
             self.base.execute('PRAGMA cache_size = -8000')
             self.begin()
         except (OSError, sqlite3.Error) as error:
@@ -283,19 +285,17 @@ class SqliteSink(SqlSink[SqliteTable]):
             for seq, (before, after, change, committed) in enumerate(entries, self.seq + 1):
                 lines.append((seq, change['gtid'], change.get('n'), change.get('ts'), committed, kind[0],
                               *(before or target.nothing), *(after or target.nothing)))
-            self.base.executemany(target.history_insertion, lines)
+            self.cursor.executemany(target.history_insertion, lines)
             self.seq += len(lines)
 
     def change_keyed(self, target: SqliteTable, kind: str, entries: List[Entry]) -> None:
-        key_of = target.table.key_of
+        key_of, done = target.table.key_of, self.cursor
         if kind == 'insert':
-            done = self.base.executemany(target.insertion, [after for _, after, _, _ in entries])  # type: ignore[misc]
+            done.executemany(target.insertion, [after for _, after, _, _ in entries])  # type: ignore[misc]
         elif kind == 'update':
-            moved = [(*(after or ()), *key_of(before or [])) for before, after, _, _ in entries]
-            done = self.base.executemany(target.update, moved)
+            done.executemany(target.update, [(*(after or ()), *key_of(before or [])) for before, after, _, _ in entries])
         else:
-            done = self.base.executemany(target.deletion,
-                                         [key_of(before) for before, _, _, _ in entries])  # type: ignore[arg-type]
+            done.executemany(target.deletion, [key_of(before) for before, _, _, _ in entries])  # type: ignore[arg-type]
         if done.rowcount != len(entries):
             self.refuse(target, entries[0], 'there is no row with this key: this is not the sink of this feed, or it was changed')
 
