@@ -3,12 +3,19 @@
 import glob
 import json
 import os
+import signal
 import subprocess
 import sys
+import tempfile
+import traceback
 
 from mrep import A, ROOT, fail, same, sqlite3
 
+sys.path.append(f'{ROOT}/sinks')
+
 SINK = f'{ROOT}/sinks/mrep-sink'
+# How many seconds a run may take.
+LONGEST = 120
 LEAST_SQLITE = (3, 37, 0)
 # A description, and the types of its tables in SQLite.
 ITEMS = [('shop', 'items', 'id', 'int', 'NULL', 'PRI'), ('shop', 'items', 'name', 'varchar(20)', 'utf8mb4', ''),
@@ -30,13 +37,41 @@ def started(*words, python=sys.executable, **how):
                             **{'stdin': subprocess.DEVNULL, **how})
 
 
-def sink(*words, status=0, says='', python=sys.executable, data=None):
-    """A run of the sink that ends with this status, and says this on standard error."""
-    how = {'input': data} if data is not None else {'stdin': subprocess.DEVNULL}
-    ran = subprocess.run([python, SINK, *words], stdout=subprocess.PIPE, stderr=subprocess.PIPE, check=False, timeout=120, **how)
-    err = ran.stderr.decode(errors='replace')
-    if ran.returncode != status or says not in err or 'Traceback' in err:
-        fail(f'mrep-sink {" ".join(words)} ends with {ran.returncode} and not {status}, and says:\n{err}and not: {says}')
+def ran_beside(words):
+    """The status of a run, and what it says on standard error: a process that begins as a copy of this one, which has the modules
+    of the sink already. To start Python and read them took most of the time of a short run."""
+    from mrep_sink.main import main
+    with tempfile.TemporaryFile() as said:
+        child = os.fork()
+        if child == 0:
+            ended = 1
+            try:
+                signal.alarm(LONGEST)
+                os.dup2(said.fileno(), 2)
+                sys.stderr = open(2, 'w', encoding='utf-8', errors='backslashreplace', closefd=False)
+                ended = main([*words])
+            except BaseException:
+                traceback.print_exc()
+            finally:
+                sys.stderr.flush()
+                os._exit(ended)
+        ended = os.waitstatus_to_exitcode(os.waitpid(child, 0)[1])
+        said.seek(0)
+        return ended, said.read().decode(errors='replace')
+
+
+def sink(*words, status=0, says='', python=None, data=None):
+    """A run of the sink that ends with this status, and says this on standard error; with a `python` or with data for its standard
+    input it is the program itself."""
+    if python or data is not None:
+        how = {'input': data} if data is not None else {'stdin': subprocess.DEVNULL}
+        ran = subprocess.run([python or sys.executable, SINK, *words], stdout=subprocess.PIPE, stderr=subprocess.PIPE, check=False,
+                             timeout=LONGEST, **how)
+        ended, err = ran.returncode, ran.stderr.decode(errors='replace')
+    else:
+        ended, err = ran_beside(words)
+    if ended != status or says not in err or 'Traceback' in err:
+        fail(f'mrep-sink {" ".join(words)} ends with {ended} and not {status}, and says:\n{err}and not: {says}')
     return err
 
 
