@@ -43,6 +43,7 @@ class Options(argparse.Namespace):
     progress: bool
     status: str
     history: bool
+    rebuild: str
     fast: bool
     as_text: List[str]
     connect_retry: float
@@ -84,6 +85,9 @@ def parser() -> Parser:
     add('--name', metavar='NAME', help='the name of the feed, which the sink keeps (mrep); with kafka it is needed, and is the '
                                        'transactional.id')
     add('--history', action='store_true', help='keeps each change of each row in tables of their own (sqlite, postgres)')
+    add('--rebuild', metavar='FILE', help='makes the tables that this file of mrep export --place has anew, with its rows, which '
+                                          'are those after the transactions of the sink; a new sink begins with them (sqlite, '
+                                          'postgres)')
     add('--fast', action='store_true', help='without a sync at each commit: a power failure may take the last ones, which come '
                                             'again (sqlite)')
     add('--as-text', metavar='SCHEMA.TABLE.COLUMN', action='append', default=[],
@@ -120,6 +124,8 @@ def parse(words: List[str]) -> Options:
             made.error(f'--{name.replace("_", "-")} is for {kind}')
     if options.kind == 'kafka' and options.history:
         made.error('--history is for sqlite and postgres: a topic is one')
+    if options.kind == 'kafka' and options.rebuild:
+        made.error('--rebuild is for sqlite and postgres')
     if options.kind == 'kafka' and not options.name:
         made.error('--name NAME is needed, a transactional.id that no other program has')
     options.name = options.name or 'mrep'

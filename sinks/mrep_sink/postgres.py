@@ -1,9 +1,10 @@
 """The sink in PostgreSQL, by psycopg 3: schemas and tables by their names, the place in the same commit in a schema of its own,
 and beside it the history. Values are given as texts, which PostgreSQL reads by the type of their column."""
 
+import itertools
 import re
 import time
-from typing import Any, Callable, Dict, Iterator, List, NoReturn, Optional, Tuple
+from typing import Any, Callable, Dict, Iterable, Iterator, List, NoReturn, Optional, Tuple
 
 try:
     import psycopg
@@ -12,7 +13,7 @@ except ImportError as missing:
     raise Fault('this python3 has no psycopg 3, which PostgreSQL needs: python3-psycopg of Debian, or psycopg of PyPI',
                 USAGE) from missing
 
-from .description import Column, Table, digest_of
+from .description import Column, Row, Table, digest_of
 from .faults import ACT, RETRY, USAGE, Fault, shown
 from .feed import Transaction, place_text, read_set
 from .options import Options
@@ -23,8 +24,8 @@ LONGEST_NAME, MOST_COLUMNS = 63, 1600
 # The schemas of the sink itself, and the column by which a row without a key is found.
 OURS, HISTORY, ROW = 'mrep', 'mrep_history', 'mrep_row'
 SYSTEM_COLUMNS = ('tableoid', 'xmin', 'cmin', 'xmax', 'cmax', 'ctid')
-# From how many changes on a run goes by COPY.
-BULK = 20
+# From how many changes on a run goes by COPY, and how many rows of an export do at a time.
+BULK, BULK_ROWS = 20, 1000
 BEFORE = ('"seq" bigint PRIMARY KEY', '"gtid" text', '"n" integer', '"ts" bigint', '"committed_us" bigint', '"op" text')
 SESSION = ("SET client_min_messages = warning; SET client_encoding = 'UTF8'; SET TimeZone = 'UTC'; SET DateStyle = 'ISO, YMD'; "
            "SET IntervalStyle = 'postgres'; "
@@ -37,6 +38,11 @@ CREATE TABLE IF NOT EXISTS mrep.place
 CREATE TABLE IF NOT EXISTS mrep.columns
     (name text, schema text, "table" text, description text NOT NULL, PRIMARY KEY (schema, "table"));
 '''
+# The set as rows, for questions in SQL.
+EXECUTED = '''CREATE VIEW mrep.executed AS
+    SELECT name, split_part(part, ':', 1) AS source, split_part(span, '-', 1)::bigint AS first,
+           coalesce(nullif(split_part(span, '-', 2), ''), span)::bigint AS last
+      FROM mrep.place, unnest(string_to_array(executed, ',')) AS part, unnest((string_to_array(part, ':'))[2:]) AS span'''
 # The kinds of errors by which a server says that it goes away, and the one of a lock that was not given.
 LOST, LOCKED = ('57P', '08'), '55P03'
 ESCAPES = str.maketrans({'\\': '\\\\', '\t': '\\t', '\n': '\\n', '\r': '\\r'})
@@ -71,7 +77,8 @@ def reader_of(column: Column) -> Callable[[Any], str]:
         return lambda value: f'\\x{value.hex()}'
     if column.type == 'bit':
         digits = f'0{column.numbers[0]}b'
-        return lambda value: format(value, digits)
+        # Of an export 64 bits may be a text.
+        return lambda value: format(int(value), digits)
     if column.type == 'timestamp':
         return lambda value: f'{value}+00'
     return text_of
@@ -255,30 +262,51 @@ class PostgresSink(SqlSink[PostgresTable]):
                         f'TEMPLATE template0')
         base.execute('BEGIN')
         base.execute(SCHEMAS)
+        if (base.execute("SELECT to_regclass('mrep.executed')").fetchone() or [None])[0] is None:
+            base.execute(EXECUTED)
         if self.options.history:
             base.execute(f'CREATE SCHEMA IF NOT EXISTS {HISTORY}')
         name = self.options.name
-        found = base.execute('SELECT history FROM mrep.place WHERE name = %s', [name]).fetchone()
+        found = base.execute('SELECT executed, history FROM mrep.place WHERE name = %s', [name]).fetchone()
         if found is None:
-            base.execute("INSERT INTO mrep.place VALUES (%s, '', '', 0, %s)", [name, self.options.history])
-            for target in self.targets.values():
-                self.make(target)
+            exported = self.exported(self.targets)
+            base.execute("INSERT INTO mrep.place VALUES (%s, '', %s, 0, %s)",
+                         [name, exported.executed if exported else '', self.options.history])
+            for at, target in self.targets.items():
+                self.make(target, exported.rows(at) if exported else ())
         else:
-            made = {(schema, table): text for schema, table, text in base.execute('SELECT schema, "table", description FROM '
-                                                                                  'mrep.columns WHERE name = %s', [name])}
-            for target in self.others(name, found[0], made):
-                self.make_anew(target, found[0])
-            if self.options.history and not found[0]:
-                for target in self.targets.values():
-                    self.make_history(target)
-                base.execute('UPDATE mrep.place SET history = true WHERE name = %s', [name])
+            self.begin_again(*found)
         place, executed, self.seq = base.execute('SELECT place, executed, seq FROM mrep.place WHERE name = %s',
                                                  [name]).fetchone() or ('', '', 0)
         base.execute('COMMIT')
         return (place or place_text((0, 0, ''), read_set(executed), ''), executed)
 
-    def make(self, target: PostgresTable) -> None:
-        """Makes a table, and what stands beside it."""
+    def begin_again(self, executed: str, has_history: bool) -> None:
+        """Goes on with a database of a sink. A table with another description is made anew while it has no rows."""
+        base, name = self.connect(), self.options.name
+        made = {(schema, table): text for schema, table, text in base.execute('SELECT schema, "table", description FROM '
+                                                                              'mrep.columns WHERE name = %s', [name])}
+        exported = self.exported({}, executed)
+        anew = self.others(name, has_history, made, exported)
+        for target in anew:
+            if base.execute(f'SELECT 1 FROM {target.name} LIMIT 1').fetchone():
+                self.has_rows(target)
+            self.remove(target, has_history)
+            self.make(target)
+        if exported:
+            for at in exported.names:
+                if at in made:
+                    self.remove(self.targets[at], has_history)
+                self.make(self.targets[at], exported.rows(at))
+                anew.append(self.targets[at])
+        if self.options.history and not has_history:
+            for target in self.targets.values():
+                if target not in anew:
+                    self.make_history(target)
+            base.execute('UPDATE mrep.place SET history = true WHERE name = %s', [name])
+
+    def make(self, target: PostgresTable, rows: Iterable[Row] = ()) -> None:
+        """Makes a table with these rows, and what stands beside it."""
         base, table = self.connect(), target.table
         other = base.execute('SELECT name FROM mrep.columns WHERE schema = %s AND "table" = %s',
                              [table.schema, table.name]).fetchone()
@@ -288,12 +316,25 @@ class PostgresSink(SqlSink[PostgresTable]):
         if (base.execute('SELECT to_regclass(%s)', [target.name]).fetchone() or [None])[0] is not None:
             raise Fault(f'{target.title}: the database has it already, and it is none of this sink: drop or rename it')
         base.execute(target.creation)
+        self.fill(target, iter(rows))
         if target.index:
             base.execute(target.index)
         base.execute('INSERT INTO mrep.columns VALUES (%s, %s, %s, %s)',
                      [self.options.name, table.schema, table.name, target.description])
         if self.options.history:
             self.make_history(target)
+
+    def fill(self, target: PostgresTable, rows: Iterator[Row]) -> None:
+        """Puts the rows of an export into a table."""
+        while taken := [[None if value is None else read(value) for read, value in zip(target.readers, row)]
+                        for row in itertools.islice(rows, BULK_ROWS)]:
+            try:
+                with self.connect().cursor().copy(target.copying) as copy:
+                    copy.write(copy_lines([target.stored(row) for row in taken]))
+            except psycopg.DataError as error:
+                raise Fault(f'{target.title}: PostgreSQL does not take a row of the export '
+                            f'({(error.diag.message_primary or str(error)).strip()}): --as-text {target.title}.COLUMN makes a column '
+                            f'a text') from error
 
     def make_history(self, target: PostgresTable) -> None:
         """Makes the history of a table, which begins with the rows that it has."""
@@ -307,11 +348,9 @@ class PostgresSink(SqlSink[PostgresTable]):
                             f'{nothing}, {names} FROM {target.name}', [self.options.name])
         base.execute('UPDATE mrep.place SET seq = seq + %s WHERE name = %s', [made.rowcount, self.options.name])
 
-    def make_anew(self, target: PostgresTable, has_history: bool) -> None:
-        """Makes a table with another description, if it has no rows. Its history is kept beside the new one."""
+    def remove(self, target: PostgresTable, has_history: bool) -> None:
+        """Removes a table that is made anew. Its history is kept beside the new one."""
         base, table = self.connect(), target.table
-        if base.execute(f'SELECT 1 FROM {target.name} LIMIT 1').fetchone():
-            self.has_rows(target)
         base.execute(f'DROP TABLE {target.name}')
         if has_history:
             seq = (base.execute('SELECT seq FROM mrep.place WHERE name = %s', [self.options.name]).fetchone() or [0])[0]
@@ -321,7 +360,6 @@ class PostgresSink(SqlSink[PostgresTable]):
                             f'{target.history}')
             base.execute(f'ALTER TABLE {target.history} RENAME TO {quoted(older)}')
         base.execute('DELETE FROM mrep.columns WHERE schema = %s AND "table" = %s', [table.schema, table.name])
-        self.make(target)
 
     # Changes
 

@@ -1,13 +1,16 @@
 """What sinks of SQL have in common: runs of changes, commits with the place in them, and how a batch that fails comes again."""
 
 import time
-from typing import Any, Callable, Dict, Generic, Iterator, List, NoReturn, Optional, Tuple, TypeVar
+from typing import TYPE_CHECKING, Any, Callable, Dict, Generic, Iterable, Iterator, List, NoReturn, Optional, Tuple, TypeVar
 
 from .description import Table, written
 from .faults import ACT, Fault, shown
 from .feed import IDLE, LARGE, Item, Reader, Transaction, add, digested, place_text, print_set, read_set
 from .options import Options
 from .report import Report
+
+if TYPE_CHECKING:
+    from .exported import Exported
 
 # How many bytes of lines are put together at most.
 RUN_BYTES = 1 << 20
@@ -90,26 +93,42 @@ class SqlSink(Sink, Generic[T]):
         if target and entries:
             self.flush(target, kind, entries)
 
-    def others(self, name: str, has_history: bool, made: Dict[Tuple[str, str], str]) -> List[T]:
-        """The tables that were made with another description. Other tables than those that were made are refused."""
+    def exported(self, needed: Iterable[Tuple[str, str]], executed: Optional[str] = None) -> 'Optional[Exported]':
+        """The file of `--rebuild`, if one is given: it has the tables that are needed, and the transactions that the sink has, or
+        any where that is new."""
+        if not self.options.rebuild:
+            return None
+        from .exported import Exported
+        found = Exported(self.options.rebuild, {place: target.table for place, target in self.targets.items()})
+        for place in needed:
+            if place not in found.names:
+                raise Fault(f'{found.path}: it has no table {".".join(map(written, place))}, whose rows from before are missing: '
+                            f'export it with the others, or leave it out by --only')
+        if executed is not None:
+            found.check(executed)
+        return found
+
+    def others(self, name: str, has_history: bool, made: Dict[Tuple[str, str], str],
+               exported: 'Optional[Exported]' = None) -> List[T]:
+        """The tables that were made with another description. Other tables than those that were made are refused. Those that an
+        export has are not looked at."""
         if name != self.options.name:
             raise Fault(f'{self.where}: it is the sink of the feed {name}, and not of {self.options.name}: --name {name}')
         if has_history and not self.options.history:
             raise Fault(f'{self.where}: it has a history, which would have a gap: give --history')
-        for place in sorted({*made, *self.targets}):
+        anew = exported.names if exported else {}
+        for place in sorted({*made, *self.targets} - {*anew}):
             title = '.'.join(map(written, place))
             if place not in self.targets:
                 raise Fault(f'{self.where}: it has the table {title}, whose changes would be lost: name it by --only too')
             if place not in made:
                 raise Fault(f'{self.where}: it was made without the table {title}, whose rows from before are missing: leave it '
-                            f'out by --only, '
-                            'or begin a new sink')
-        return [target for place, target in self.targets.items() if made[place] != target.description]
+                            f'out by --only, or take them from an export by --rebuild')
+        return [target for place, target in self.targets.items() if place not in anew and made[place] != target.description]
 
     def has_rows(self, target: T) -> NoReturn:
         raise Fault(f'{target.title}: it has rows of another description: give the older one until they are gone from the feed, '
-                    f'as by '
-                    '`mrep clear --changes`, or begin a new sink')
+                    'as by `mrep clear --changes`, or take those of an export by --rebuild')
 
     def leave_out(self, change: Item) -> None:
         """A change of a table that is not wanted. Without `--only` all are."""

@@ -4,7 +4,7 @@ import os
 import sqlite3
 from typing import Any, Dict, Iterable, List, Optional, Tuple
 
-from .description import CHARACTERS, INTEGERS, MEMBERS, REALS, TEXTS, Column, Table, digest_of
+from .description import CHARACTERS, INTEGERS, MEMBERS, REALS, TEXTS, Column, Row, Table, digest_of
 from .faults import RETRY, USAGE, Fault
 from .feed import Transaction, place_text, read_set
 from .options import Options
@@ -16,6 +16,18 @@ OURS = 'mrep_'
 PLACE = 'CREATE TABLE "mrep_place" ("place" TEXT, "executed" TEXT) STRICT'
 STATE = 'CREATE TABLE "mrep_sink" ("name" TEXT, "seq" INTEGER, "history" INTEGER) STRICT'
 COLUMNS = 'CREATE TABLE "mrep_columns" ("schema" TEXT, "table" TEXT, "description" TEXT, PRIMARY KEY ("schema", "table")) STRICT'
+# The set as rows, for questions in SQL.
+EXECUTED = '''CREATE VIEW IF NOT EXISTS "mrep_executed" ("source", "first", "last") AS
+WITH RECURSIVE parts(part, rest) AS (
+  SELECT '', executed || ',' FROM mrep_place
+  UNION ALL
+  SELECT substr(rest, 1, instr(rest, ',') - 1), substr(rest, instr(rest, ',') + 1) FROM parts WHERE rest <> ''),
+spans(source, span, rest) AS (
+  SELECT substr(part, 1, instr(part, ':') - 1), '', substr(part, instr(part, ':') + 1) || ':' FROM parts WHERE part <> ''
+  UNION ALL
+  SELECT source, substr(rest, 1, instr(rest, ':') - 1), substr(rest, instr(rest, ':') + 1) FROM spans WHERE rest <> '')
+SELECT source, CAST(substr(span, 1, instr(span || '-', '-') - 1) AS INTEGER), CAST(substr(span, instr(span, '-') + 1) AS INTEGER)
+  FROM spans WHERE length(span) > 0'''
 HISTORY = ('"seq" INTEGER PRIMARY KEY', '"gtid" TEXT', '"n" INTEGER', '"ts" INTEGER', '"committed_us" INTEGER', '"op" TEXT')
 
 
@@ -32,6 +44,12 @@ def type_of(column: Column) -> str:
     if column.is_bytes:
         return 'BLOB'
     return 'TEXT' if column.type in TEXTS + CHARACTERS + MEMBERS else 'ANY'
+
+
+def tables_of(base: sqlite3.Connection) -> Dict[str, str]:
+    """The tables of a file, with the statements that made them."""
+    return dict(base.execute("SELECT name, sql FROM sqlite_schema WHERE type = 'table' AND name NOT LIKE 'sqlite\\_%' ESCAPE "
+                             "'\\'"))
 
 
 class SqliteTable(Target):
@@ -146,14 +164,9 @@ class SqliteSink(SqlSink[SqliteTable]):
     def begin(self) -> None:
         """Makes the tables, or looks whether they are those that are wanted, and reads the place."""
         self.base.execute('BEGIN IMMEDIATE')
-        tables = {name: sql for name, sql in self.base.execute("SELECT name, sql FROM sqlite_schema WHERE type = 'table' AND "
-                                                               "name NOT LIKE 'sqlite\\_%' ESCAPE '\\'")}
+        tables = tables_of(self.base)
         if not tables:
-            for statement in (PLACE, "INSERT INTO mrep_place VALUES ('', '')", STATE, COLUMNS):
-                self.base.execute(statement)
-            self.make_state()
-            for target in self.targets.values():
-                self.make(target)
+            self.begin_new()
         elif tables.get('mrep_place') != PLACE:
             raise Fault(f'{self.options.to}: it has tables and no place in a feed: `mrep export --place` makes a file that has '
                         f'one'
@@ -162,6 +175,7 @@ class SqliteSink(SqlSink[SqliteTable]):
             self.begin_exported(tables)
         else:
             self.begin_again()
+        self.base.execute(EXECUTED)
         place, executed = self.base.execute('SELECT place, executed FROM mrep_place').fetchone()
         self.stored: Place = (place, executed)
         self.held = (place or place_text((0, 0, ''), read_set(executed), ''), executed)
@@ -171,21 +185,36 @@ class SqliteSink(SqlSink[SqliteTable]):
         self.base.execute('PRAGMA journal_mode = WAL')
         self.base.execute(f'PRAGMA synchronous = {"NORMAL" if self.options.fast else "FULL"}')
 
+    def begin_new(self) -> None:
+        """Makes the tables in a new file, with the rows of an export if one is given."""
+        exported = self.exported(self.targets)
+        for statement in (PLACE, STATE, COLUMNS):
+            self.base.execute(statement)
+        self.base.execute("INSERT INTO mrep_place VALUES ('', ?)", (exported.executed if exported else '',))
+        self.make_state()
+        for place, target in self.targets.items():
+            self.make(target, exported.rows(place) if exported else ())
+
     def make_state(self) -> None:
         self.base.execute('INSERT INTO mrep_sink VALUES (?, 0, ?)', (self.options.name, int(self.options.history)))
 
-    def make(self, target: SqliteTable, is_there: bool = False) -> None:
-        """Makes a table of the sink, and what stands beside it."""
-        if not is_there:
+    def make(self, target: SqliteTable, rows: Optional[Iterable[Row]] = ()) -> None:
+        """Makes a table of the sink with these rows, and what stands beside it; without rows it is there."""
+        if rows is not None:
             self.base.execute(target.creation)
+            self.base.executemany(target.insertion, rows)
         table = target.table
         self.base.execute('INSERT OR REPLACE INTO mrep_columns VALUES (?, ?, ?)', (table.schema, table.name, target.description))
         if not table.keys:
-            self.base.execute(target.rows_creation)
-            rows = self.base.execute(f'SELECT {target.rowid}, * FROM {quoted(target.name)}')
-            self.base.executemany(target.rows_insertion, ((digest_of(values), row) for row, *values in rows))
+            self.make_rows(target)
         if self.options.history:
             self.make_history(target)
+
+    def make_rows(self, target: SqliteTable) -> None:
+        """Makes what the rows of a table without a key are found by."""
+        self.base.execute(target.rows_creation)
+        found = self.base.execute(f'SELECT {target.rowid}, * FROM {quoted(target.name)}')
+        self.base.executemany(target.rows_insertion, ((digest_of(values), row) for row, *values in found))
 
     def make_history(self, target: SqliteTable) -> None:
         """Makes the history of a table, which begins with the rows that it has."""
@@ -201,6 +230,8 @@ class SqliteSink(SqlSink[SqliteTable]):
 
     def begin_exported(self, tables: Dict[str, str]) -> None:
         """Goes on with a file that `mrep export --place` has made."""
+        if self.options.rebuild:
+            raise Fault(f'{self.options.to}: an export is gone on with as it is, without --rebuild', USAGE)
         mine = {target.name: target for target in self.targets.values()}
         for name in sorted({*mine, *tables} - {'mrep_place'}):
             if name not in tables:
@@ -215,23 +246,37 @@ class SqliteSink(SqlSink[SqliteTable]):
             self.base.execute(statement)
         self.make_state()
         for target in self.targets.values():
-            self.make(target, is_there=True)
+            self.make(target, None)
 
     def begin_again(self) -> None:
         """Goes on with a file of a sink. A table with another description is made anew while it has no rows."""
         name, has_history = self.base.execute('SELECT name, history FROM mrep_sink').fetchone()
         made = {(schema, table): text for schema, table, text in self.base.execute('SELECT * FROM mrep_columns')}
-        for target in self.others(name, bool(has_history), made):
-            self.make_anew(target, has_history)
-        if self.options.history and not has_history:
-            for target in self.targets.values():
+        executed = self.base.execute('SELECT executed FROM mrep_place').fetchone()[0]
+        exported = self.exported({}, executed)
+        anew = self.others(name, bool(has_history), made, exported)
+        for target in anew:
+            if self.base.execute(f'{target.selection} LIMIT 1').fetchone():
+                self.has_rows(target)
+            self.remove(target, has_history)
+            self.make(target)
+        if exported:
+            for place in exported.names:
+                if place in made:
+                    self.remove(self.targets[place], has_history)
+                self.make(self.targets[place], exported.rows(place))
+                anew.append(self.targets[place])
+        there = tables_of(self.base)
+        for target in self.targets.values():
+            if not target.table.keys and target.rows_name not in there:
+                self.make_rows(target)
+            if self.options.history and not has_history and target not in anew:
                 self.make_history(target)
+        if self.options.history:
             self.base.execute('UPDATE mrep_sink SET history = 1')
 
-    def make_anew(self, target: SqliteTable, has_history: bool) -> None:
-        """Makes a table with another description, if it has no rows. Its history is kept beside the new one."""
-        if self.base.execute(f'{target.selection} LIMIT 1').fetchone():
-            self.has_rows(target)
+    def remove(self, target: SqliteTable, has_history: bool) -> None:
+        """Removes a table that is made anew. Its history is kept beside the new one."""
         self.base.execute(f'DROP TABLE {quoted(target.name)}')
         self.base.execute(f'DROP TABLE IF EXISTS {quoted(target.rows_name)}')
         if has_history:
@@ -240,7 +285,6 @@ class SqliteSink(SqlSink[SqliteTable]):
                 self.base.execute(f'DROP INDEX IF EXISTS {quoted(f"{OURS}history_{side}.{target.name}")}')
             self.base.execute(f'ALTER TABLE {quoted(target.history_name)} RENAME TO '
                               f'{quoted(f"{target.history_name}.until.{seq}")}')
-        self.make(target)
 
     def write(self, batch: List[Transaction], after: Place, is_careful: bool) -> None:
         seq = self.seq
