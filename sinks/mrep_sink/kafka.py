@@ -86,7 +86,10 @@ class KafkaSink(SqlSink[Topic]):
             if not sign:
                 raise Fault(f'--setting {word}: NAME=VALUE is meant', USAGE)
             self.settings[name] = value
+        # Why a message was not taken; why the producer can do nothing more; when the transaction of Kafka began.
         self.failure: Optional[Fault] = None
+        self.ended: Optional[Fault] = None
+        self.begun = time.monotonic()
         self.is_feed = options.envelope == 'feed'
         try:
             self.begin()
@@ -98,6 +101,10 @@ class KafkaSink(SqlSink[Topic]):
         why = error.args[0] if error.args else error
         text = why.str() if isinstance(why, KafkaError) else str(why)
         if isinstance(why, KafkaError) and why.code() in (KafkaError._FENCED, KafkaError.INVALID_PRODUCER_EPOCH):
+            longest = int(self.settings.get('transaction.timeout.ms', TRANSACTION_MS)) / 1000
+            if time.monotonic() - self.begun > longest:
+                return Fault(f'a transaction has taken longer than {longest:.0f} s, after which Kafka gives it up ({text}): raise '
+                             f'transaction.timeout.ms by --setting, and transaction.max.timeout.ms of the brokers')
             return Fault(f'a newer run has this sink, and has ended this one ({text})')
         if isinstance(why, KafkaError) and why.code() in (KafkaError.MSG_SIZE_TOO_LARGE, KafkaError.RECORD_LIST_TOO_LARGE):
             return Fault(f'a row is larger than Kafka takes ({text}): raise message.max.bytes by --setting and '
@@ -198,7 +205,9 @@ class KafkaSink(SqlSink[Topic]):
     # Changes
 
     def write(self, batch: List[Transaction], after: Place, is_careful: bool) -> None:
-        self.failure = None
+        if self.ended:
+            raise self.ended
+        self.failure, self.begun = None, time.monotonic()
         try:
             self.producer.begin_transaction()
             for transaction in batch:
@@ -208,8 +217,13 @@ class KafkaSink(SqlSink[Topic]):
             self.produce(self.place_topic, self.options.name.encode(), compact(value), [], 0)
             self.commit()
         except KafkaException as error:
-            self.abort()
-            raise self.failed(error) from error
+            # Where a message was refused, that says more.
+            failure = self.failure or self.failed(error)
+            if error.args[0].fatal():
+                self.ended = failure
+            else:
+                self.abort()
+            raise failure from error
         except Fault:
             self.abort()
             raise
@@ -232,8 +246,8 @@ class KafkaSink(SqlSink[Topic]):
         try:
             self.producer.abort_transaction(WAIT)
         except KafkaException as error:
-            # After this one the producer does nothing more: the run ends.
-            self.report.say(str(self.failed(error)))
+            self.ended = self.failed(error)
+            self.report.say(str(self.ended))
 
     def send(self, transaction: Transaction) -> None:
         """The messages of a transaction, each with the place that it has in it, and its end."""
@@ -293,5 +307,6 @@ class KafkaSink(SqlSink[Topic]):
                 self.producer.poll(0.1)
 
     def delivered(self, error: Optional[KafkaError], message: Message) -> None:
-        if error and not self.failure:
+        # What is purged was given up for another message.
+        if error and not self.failure and error.code() not in (KafkaError._PURGE_QUEUE, KafkaError._PURGE_INFLIGHT):
             self.failure = self.failed(KafkaException(error))
