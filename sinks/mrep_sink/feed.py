@@ -159,6 +159,8 @@ def lines_of(span: Span) -> Iterator[bytes]:
 class Kept:
     """Changes of a transaction that has not ended: as they are while they are small, otherwise where their lines stand."""
 
+    __slots__ = ('gtid', 'count', 'size', 'is_in_order', 'keeps_lines', 'items', 'spans')
+
     def __init__(self, gtid: str = '', keeps_lines: bool = False) -> None:
         self.gtid, self.count, self.size, self.is_in_order, self.keeps_lines = gtid, 0, 0, True, keeps_lines
         self.items: List[Item] = []

@@ -158,15 +158,16 @@ class Committer:
         reader = Reader(self.sink.held[0], self.options.adopt, needs_form=True, keeps_lines=self.sink.keeps_lines)
         reader.on_cut = lambda name, at: self.report.say(f'{name}: a line is cut at {at}: what follows is left out up to an open')
         batch: List[Transaction] = []
-        size, begun = 0, time.monotonic()
+        most, batch_bytes, now = self.options.batch, self.sink.batch_bytes, time.monotonic
+        size, begun = 0, now()
         for transaction in self.taken(reader, batch):
             if transaction is not IDLE:
                 batch.append(transaction)
                 size += transaction.kept.size
-                if len(batch) < self.options.batch and size < self.sink.batch_bytes and time.monotonic() - begun < 1:
+                if len(batch) < most and size < batch_bytes and now() - begun < 1:
                     continue
             self.commit(batch)
-            size, begun = 0, time.monotonic()
+            size, begun = 0, now()
             self.report.tick()
         self.commit(batch)
 
