@@ -259,9 +259,9 @@ class KafkaSink(SqlSink[Topic]):
                 self.leave_out(change)
                 continue
             before, after = change.get('before'), change.get('after')
-            if before:
+            if before is not None:
                 target.table.check(before, form)
-            if after:
+            if after is not None:
                 target.table.check(after, form)
             old = target.key_of(before) if before else None
             key = target.key_of(after) if after else old

@@ -87,7 +87,8 @@ class SqlSink(Sink, Generic[T]):
                         self.flush(target, kind, entries)
                     target, kind, entries = wanted, change['type'], []
                 before, after = change.get('before'), change.get('after')
-                entries.append((before and wanted.values(before, form), after and wanted.values(after, form), change, committed))
+                entries.append((None if before is None else wanted.values(before, form),
+                                None if after is None else wanted.values(after, form), change, committed))
                 if tuple(change.get('key', ())) != wanted.key_names:
                     raise Fault(wanted.table.unfit('the feed has another key'))
         if target and entries:
