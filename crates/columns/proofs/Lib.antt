@@ -33,6 +33,5 @@ pub mod TablesAhead
 pub mod WrongLines
 pub mod Refusals
 pub mod Narrow
-pub mod WrittenCells
 pub mod FieldWrites
 pub mod LineFaults

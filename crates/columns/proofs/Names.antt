@@ -25,7 +25,7 @@ pub use Rattle.columns.specs.declared.arguments.Arguments.{Arguments}
 pub use Rattle.columns.specs.declared.escape.Layer.TheVariants.{Client, Quoted}
 pub use Rattle.columns.specs.declared.member.Member.{Member}
 pub use Rattle.columns.specs.declared.sign.Sign.{Sign}
-pub use Rattle.std.proofs.Common.{◌≡◌, ℕ, ◌+◌, ◌-◌, ◌<◌, Bool, List, [], ◌∷◌, ◌++◌, length, take, refl, sym, ap, ◌∙◌, arith, length-append, subst, zero, suc, ◌*◌, ◌/◌, ◌%◌, ◌^◌, ◌≤◌, T, ◌&&◌, ◌⊎◌, inl, inr, replicate, true, false, not, if◌then◌else◌, append_assoc, Bor, ◌||◌, ◌==◌, nat_lt, get_or, append-nil, set, sum, take_all, Option, Some, None, map, ◌≢◌, nat_le, rules, to_bits, string_bytes, vec_len, vec_capacity}
+pub use Rattle.std.proofs.Common.{◌≡◌, ℕ, ◌+◌, ◌-◌, ◌<◌, Bool, List, [], ◌∷◌, ◌++◌, length, take, refl, sym, ap, ◌∙◌, arith, length-append, subst, zero, suc, ◌*◌, ◌/◌, ◌%◌, ◌^◌, ◌≤◌, T, ◌&&◌, ◌⊎◌, inl, inr, replicate, true, false, not, if◌then◌else◌, append_assoc, Bor, ◌||◌, ◌==◌, nat_lt, get_or, append-nil, set, sum, take_all, Option, Some, None, map, ◌≢◌, nat_le, rules, to_bits, string_bytes, vec_len}
 pub use Rattle.std.proofs.Math.Nat.{pow-le-pow_right, one-le-pow}
 pub use Rattle.std.proofs.Math.Seq.{take-append_seam}
 pub use Rattle.std.proofs.Output.{has_written_of_eq}

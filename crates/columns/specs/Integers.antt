@@ -1,24 +1,14 @@
 -- The integers of columns. MySQL Reference Manual, "Integer Types", and MySQL Source Documentation, `Field_num::pack`.
-use Rattle.std.specs.Prelude.{◌≡◌, ℕ, suc, ◌*◌, ◌-◌, ◌<◌, ◌^◌, ℤ, pos, negsuc, List, Option, Some, None, decimal}
+use Rattle.std.specs.Prelude.{◌≡◌, ℕ, suc, ◌*◌, ◌-◌, ◌<◌, ◌^◌, ℤ, pos, negsuc, List, decimal}
 use Rattle.std.specs.Fmt.{signed_decimal}
 use Rattle.binlog.specs.Cell.{CellValue}
 use Rattle.binlog.specs.Cell.CellValue.{number_cell}
-use Rattle.columns.specs.declared.type_name.TypeName.{TypeName}
-use Rattle.columns.specs.declared.type_name.TypeName.TheVariants.{Tinyint, Smallint, Mediumint, Int, Bigint}
 use Rattle.columns.specs.declared.sign.Sign.{Sign}
 use Rattle.columns.specs.declared.sign.Sign.TheVariants.{Signed as SignedType, Unsigned as UnsignedType, Zerofill as ZerofillType}
 use Rattle.columns.specs.declared.value.integer.IntegerWidth.{IntegerWidth}
 use Rattle.columns.specs.declared.value.integer.IntegerWidth.TheVariants.{One, Two, Three, Four, Eight}
 use Rattle.columns.specs.declared.value.integer.Integer.{Integer}
 use Rattle.columns.specs.declared.value.integer.Integer.TheVariants.{Signed, Unsigned}
-
-abbrev pub integer_width : TypeName → Option IntegerWidth
-integer_width Tinyint = Some One
-integer_width Smallint = Some Two
-integer_width Mediumint = Some Three
-integer_width Int = Some Four
-integer_width Bigint = Some Eight
-integer_width _ = None
 
 abbrev pub byte_count : IntegerWidth → ℕ
 byte_count One = 1

@@ -29,7 +29,6 @@ pub mod FieldPoints
 pub mod FieldCells
 pub mod FieldWrites
 pub mod WrittenCells
-pub mod Writes
 pub mod PlainTexts
 pub mod Decimals
 pub mod Escapes

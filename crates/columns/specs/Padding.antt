@@ -2,16 +2,10 @@
 -- "The CHAR and VARCHAR Types" and "The BINARY and VARBINARY Types", and MySQL Source Documentation, `Field_string::pack`.
 use Rattle.std.specs.Prelude.{◌≡◌, ◌≢◌, ℕ, List, [], ◌∷◌, ◌++◌, Option, Some, None, ⊤}
 use Rattle.std.specs.List.{repeat}
-use Rattle.binlog.specs.Cell.{CellValue}
-use Rattle.binlog.specs.Cell.CellValue.{bytes_cell}
-use Rattle.columns.specs.TypedValues.{IsValueOf}
-use Rattle.columns.specs.declared.arguments.Arguments.{Arguments}
 use Rattle.columns.specs.declared.character_set.CharacterSet.{CharacterSet}
 use Rattle.columns.specs.declared.character_set.CharacterSet.TheVariants.{Ucs2, Utf16, Utf16le, Utf32}
-use Rattle.columns.specs.declared.sign.Sign.{Sign}
 use Rattle.columns.specs.declared.type_name.TypeName.{TypeName}
 use Rattle.columns.specs.declared.type_name.TypeName.TheVariants as name
-use Rattle.columns.specs.declared.typed_value.TypedValue.{TypedValue}
 
 -- the bytes of a blank in a character set
 abbrev pub blank_bytes : CharacterSet → List ℕ
@@ -36,12 +30,3 @@ IsUnpadded (Some pad) bytes = (front : List ℕ) → bytes ≢ front ++ pad
 abbrev pub IsPadded : Option (List ℕ) → List ℕ → List ℕ → Type 0
 IsPadded None front bytes = bytes ≡ front
 IsPadded (Some pad) front bytes = (times : ℕ) × (bytes ≡ front ++ repeat times pad)
-
--- The bytes of a cell do not end with the padding.
-abbrev pub IsUnpaddedCell : Option (List ℕ) → CellValue → Type 0
-IsUnpaddedCell pad (bytes_cell bytes) = IsUnpadded pad bytes
-IsUnpaddedCell pad _ = ⊤
-
--- The cell is that of the value in a column of this type, as a server sends it: without padding at its end.
-abbrev pub IsSentCell : TypeName → Arguments → Sign → CharacterSet → TypedValue → CellValue → Type 0
-IsSentCell name numbers sign set value cell = IsValueOf name numbers sign value cell × IsUnpaddedCell (padding name set) cell

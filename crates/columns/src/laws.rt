@@ -28,7 +28,7 @@ use crate::one_value as value_by_type;
 use crate::sign::Sign as TypeSign;
 use crate::type_name::TypeName;
 use crate::typed_value::{bits_of, digits_of};
-use crate::value::choice::{ordinal_cell, read_ordinal, read_set, set_cell};
+use crate::value::choice::{ordinal_width, read_ordinal, read_set, set_width};
 use crate::value::date::Date;
 use crate::value::decimal::Decimal;
 use crate::value::fault::CellFault;
@@ -38,7 +38,6 @@ use crate::value::moment::Datetime;
 use crate::value::span::Time;
 use crate::value::stamp::Timestamp;
 use crate::value::year::Year;
-use crate::written_cell::WrittenCell;
 use binlog::Cell;
 
 /// A text is that of one type at most.
@@ -195,10 +194,13 @@ pub fn ordinal_reads_back(members: u16, ordinal: u16) -> Result<u16, CellFault>
     requires { ordinal ≤ members }
     ensures { result ≡ Ok ordinal }
 {
-    let Some(WrittenCell::Number { value, width }) = ordinal_cell(members, ordinal) else {
-        unreachable!();
-    };
-    read_ordinal(members, Cell::Number { value, width })
+    read_ordinal(
+        members,
+        Cell::Number {
+            value: u64::from(ordinal),
+            width: ordinal_width(members),
+        },
+    )
 }
 
 /// What is read of the cell of a SET's bits is these bits.
@@ -207,10 +209,13 @@ pub fn set_reads_back(members: u8, bits: u64) -> Result<u64, CellFault>
     requires bits { bits < 2 ^ members }
     ensures { result ≡ Ok bits }
 {
-    let Some(WrittenCell::Number { value, width }) = set_cell(members, bits) else {
-        unreachable!();
-    };
-    read_set(members, Cell::Number { value, width })
+    read_set(
+        members,
+        Cell::Number {
+            value: bits,
+            width: set_width(members),
+        },
+    )
 }
 
 /// A cell is that of one value at most in a column of a type, so what is read of a cell that was written is the value.

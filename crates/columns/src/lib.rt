@@ -3,8 +3,8 @@
 //! The log says how many bytes a cell takes and no more. A description of the columns, as the server's
 //! `information_schema` gives it, says the rest: the type, its sign, its digits. [`Description::read`] reads one.
 //! [`DataType::read`] reads the text of a type, and its `Display` writes it. [`TypedValue::read`] gives the value of a cell
-//! in a column of a type, and [`TypedValue::write`] the cell of a value, as a server sends it. [`ColumnType::write_field`]
-//! writes the cell of the value that a field of a client's line is.
+//! in a column of a type. [`ColumnType::write_field`] writes the cell of the value that a field of a client's line is, as a
+//! server sends it.
 //!
 //! The types and their texts are those of the MySQL Reference Manual, "Data Types" and "The INFORMATION_SCHEMA COLUMNS
 //! Table".
@@ -40,7 +40,6 @@ mod table;
 mod text;
 mod type_name;
 mod typed_value;
-mod typed_write;
 mod value;
 mod wide;
 mod word;
@@ -66,7 +65,7 @@ pub use text::Text;
 pub use type_name::TypeName;
 pub use typed_value::TypedValue;
 pub use value::bit::read_bits;
-pub use value::choice::{ordinal_cell, ordinal_width, read_ordinal, read_set, set_cell, set_width};
+pub use value::choice::{ordinal_width, read_ordinal, read_set, set_width};
 pub use value::date::Date;
 pub use value::decimal::{Decimal, ZerofilledDecimal};
 pub use value::fault::CellFault;

@@ -13,16 +13,6 @@ pub struct Member {
     ghost lawful: { hex ≡ not (is_utf8 text.items) },
 }
 
-impl Member {
-    /// The member of these bytes.
-    pub fn new(text: Vec<u8>) -> Member
-        ensures { result.text ≡ text }
-    {
-        let hex = !is_text(&text);
-        Member { text, hex }
-    }
-}
-
 /// Whether the bytes are UTF-8.
 pub(crate) fn is_text(bytes: &[u8]) -> bool
     ensures { result ≡ is_utf8 bytes.now }

@@ -1,14 +1,11 @@
 //! What a server leaves out at the end of a cell.
 
-ghost use Rattle.std.specs.Prelude.{◌≡◌, ◌<◌, ℕ, [], ◌∷◌, length, MatchBool, Some};
-ghost use Rattle.columns.specs.TypedValues.{IsValueOf, IsTextWithin, AreBytesWithin};
+ghost use Rattle.std.specs.Prelude.{◌≡◌, ◌<◌, length, Some};
 ghost use Rattle.columns.specs.Padding.{blank_bytes, padding, IsUnpadded, IsPadded};
-ghost use Rattle.columns.specs.Writes.{ArePadded, AreUnpadded};
 
 use crate::character_set::CharacterSet;
 use crate::data_type::DataType;
 use crate::type_name::TypeName;
-use crate::typed_value::TypedValue;
 
 /// What a BINARY is padded with.
 const ZERO: &[u8] = &[0];
@@ -53,53 +50,4 @@ fn front_of<'a>(bytes: &'a [u8], pad: &[u8]) -> &'a [u8]
         left = front;
     }
     left
-}
-
-/// Whether the bytes of the value end with what a server leaves out in a column of this type.
-pub(crate) fn is_padded(kind: DataType, set: CharacterSet, value: TypedValue<'_>) -> bool
-    ensures { MatchBool result (ArePadded (IsValueOf kind.name kind.numbers kind.sign value.entry)
-        (padding kind.name set)) (AreUnpadded (IsValueOf kind.name kind.numbers kind.sign
-        value.entry) (padding kind.name set)) }
-{
-    match kind.name {
-        TypeName::Binary => is_padded_binary(value),
-        TypeName::Char => is_padded_text(set.blank(), value),
-        _ => false,
-    }
-}
-
-/// Whether it is bytes that end with a zero.
-fn is_padded_binary(value: TypedValue<'_>) -> bool
-    ensures { (most : ℕ) → MatchBool result
-        (ArePadded (AreBytesWithin most value.entry) (Some (0 ∷ [])))
-        (AreUnpadded (AreBytesWithin most value.entry) (Some (0 ∷ []))) }
-{
-    let TypedValue::Bytes(bytes) = value else {
-        return false;
-    };
-    ends_with(bytes, ZERO)
-}
-
-/// Whether it is a text that ends with this blank.
-fn is_padded_text(blank: &[u8], value: TypedValue<'_>) -> bool
-    ensures { (most : ℕ) → MatchBool result
-        (ArePadded (IsTextWithin most value.entry) (Some blank.now))
-        (AreUnpadded (IsTextWithin most value.entry) (Some blank.now)) }
-{
-    let TypedValue::Text(bytes) = value else {
-        return false;
-    };
-    ends_with(bytes, blank)
-}
-
-/// Whether the bytes end with these.
-fn ends_with(bytes: &[u8], pad: &[u8]) -> bool
-    ensures { MatchBool result
-        (IsUnpadded (Some pad.now) bytes.now → ⊥)
-        (IsUnpadded (Some pad.now) bytes.now) }
-{
-    match bytes.strip_suffix(pad) {
-        Some(_) => true,
-        None => false,
-    }
 }

@@ -1,13 +1,10 @@
 //! ENUM and SET.
 
-ghost use Rattle.std.specs.Prelude.{◌≡◌, ◌≤◌, ◌<◌, ◌^◌, ℕ, Ok, IfOk, IfErr, IfSome, IfNone};
+ghost use Rattle.std.specs.Prelude.{◌≡◌, ◌≤◌, ◌<◌, ◌^◌, ℕ, Ok, IfOk, IfErr};
 ghost use Rattle.binlog.specs.Cell.{cell_value, number_cell};
 ghost use Rattle.columns.specs.Choices.{ordinal_size, set_size, counted_fault};
-ghost use Rattle.columns.specs.declared.written_cell.WrittenCell.TheVariants.{Number};
 
-use crate::value::bit::has_bits;
 use crate::value::fault::CellFault;
-use crate::written_cell::WrittenCell;
 use binlog::Cell;
 
 /// How many bytes the ordinal of a member takes in a column of an ENUM with so many members: one up to 255 of them.
@@ -33,21 +30,6 @@ pub fn read_ordinal(members: u16, cell: Cell<'_>) -> Result<u16, CellFault>
         return Err(CellFault::Range);
     }
     Ok(value as u16)
-}
-
-/// The cell of an ordinal in a column of an ENUM with so many members. `None` of one beyond the members.
-pub fn ordinal_cell(members: u16, ordinal: u16) -> Option<WrittenCell>
-    ensures found { IfSome result (λ cell. (ordinal ≤ members)
-        × (cell ≡ Number ordinal (ordinal_size members))) }
-    ensures none { IfNone result (members < ordinal) }
-{
-    if ordinal > members {
-        return None;
-    }
-    Some(WrittenCell::Number {
-        value: u64::from(ordinal),
-        width: ordinal_width(members),
-    })
 }
 
 /// How many bytes the bits of a SET with so many members take: as many as hold them, and eight for more than four.
@@ -80,23 +62,6 @@ pub fn read_set(members: u8, cell: Cell<'_>) -> Result<u64, CellFault>
         return Err(CellFault::Range);
     }
     Ok(value)
-}
-
-/// The cell of bits in a column of a SET with so many members, the lowest for the first one. `None` of bits of which one
-/// is beyond the members.
-pub fn set_cell(members: u8, bits: u64) -> Option<WrittenCell>
-    requires { members ≤ 64 }
-    ensures found { IfSome result (λ cell. (bits < 2 ^ members)
-        × (cell ≡ Number bits (set_size members))) }
-    ensures none { IfNone result (2 ^ members ≤ bits) }
-{
-    if !has_bits(bits, members) {
-        return None;
-    }
-    Some(WrittenCell::Number {
-        value: bits,
-        width: set_width(members),
-    })
 }
 
 /// The number in a cell of so many bytes.

@@ -4,11 +4,10 @@ ghost use Rattle.std.specs.Prelude.{◌≡◌, ◌↔◌, ◌<◌, ◌≤◌, �
 ghost use Rattle.binlog.specs.Cell.{cell_value, number_cell};
 ghost use Rattle.columns.specs.Text.{zero_padded};
 ghost use Rattle.columns.specs.Cells.{number_fault};
-ghost use Rattle.columns.specs.Integers.{byte_count, integer_width, IsIntegerCell, IsInRange, IsWithin, HasSign, stored, integer_text};
+ghost use Rattle.columns.specs.Integers.{byte_count, IsIntegerCell, IsInRange, IsWithin, HasSign, stored, integer_text};
 ghost use Rattle.columns.specs.Integers as spec;
 
 use crate::sign::Sign;
-use crate::type_name::TypeName;
 use crate::value::fault::CellFault;
 use binlog::Cell;
 use std::fmt;
@@ -29,20 +28,6 @@ pub enum IntegerWidth {
 }
 
 impl IntegerWidth {
-    /// The width of an integer type, or `None` of another type.
-    pub fn of(name: TypeName) -> Option<IntegerWidth>
-        ensures { result ≡ integer_width name }
-    {
-        match name {
-            TypeName::Tinyint => Some(IntegerWidth::One),
-            TypeName::Smallint => Some(IntegerWidth::Two),
-            TypeName::Mediumint => Some(IntegerWidth::Three),
-            TypeName::Int => Some(IntegerWidth::Four),
-            TypeName::Bigint => Some(IntegerWidth::Eight),
-            _ => None,
-        }
-    }
-
     /// The number of bytes.
     pub fn bytes(self) -> u8
         ensures { result ≡ byte_count self }
