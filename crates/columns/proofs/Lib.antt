@@ -35,3 +35,4 @@ pub mod Refusals
 pub mod Narrow
 pub mod FieldWrites
 pub mod LineFaults
+pub mod NameCodes

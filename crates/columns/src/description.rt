@@ -1,8 +1,6 @@
 //! The description of tables.
 
-ghost use Rattle.std.specs.Prelude.{◌≡◌, ◌+◌, ◌-◌, ◌==◌, ◌&&◌, [], List, IfOk, IfErr, IsErrAnd, MatchResult, length, take, count_by, find, string_bytes};
-ghost use Rattle.std.specs.Option.{option_copied};
-ghost use Rattle.std.specs.Str.{bytes_eq};
+ghost use Rattle.std.specs.Prelude.{◌≡◌, ◌+◌, ◌-◌, ◌==◌, [], List, IfOk, IfErr, IsErrAnd, MatchResult, length, take, count_by};
 ghost use Rattle.columns.specs.Descriptions.{DescribedTableValue, described_tables, description_text, AreTables, IsDescription, IsTableStopped, IsDescriptionFault};
 ghost use Rattle.columns.specs.declared.fields.LineFault.TheVariants.{Memory};
 
@@ -62,16 +60,6 @@ impl Description {
                 fault: stop.fault,
             }),
         }
-    }
-
-    /// The table of this name in this schema, if it is described.
-    pub fn table(&self, schema: &[u8], name: &[u8]) -> Option<&DescribedTable>
-        ensures { option_copied result ≡ find (λ table. bytes_eq
-            (string_bytes table.schema) schema.now && bytes_eq (string_bytes table.name) name.now)
-            self.now.tables.items }
-    {
-        self.tables.iter().find(|table| table.schema.as_bytes() == schema
-            && table.name.as_bytes() == name)
     }
 }
 

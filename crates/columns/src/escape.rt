@@ -129,7 +129,7 @@ fn undo_quoted(first: u8, second: u8) -> Option<u8>
 }
 
 /// What stands for the byte, if it does not stand for itself.
-fn escape_of(layer: Layer, byte: u8) -> Option<&'static str>
+pub(crate) fn escape_of(layer: Layer, byte: u8) -> Option<&'static str>
     ensures { MatchOption result (escape layer byte
         ≡ byte ∷ []) (λ pair. (escape layer byte ≡ pair.now) × (length pair.now ≡ 2)) }
 {

@@ -17,8 +17,8 @@ use crate::column::{Column, Key};
 use crate::column_type::{ColumnType, ColumnTypeFault};
 use crate::escape::{EscapeFault, unescape};
 use crate::member::is_text;
-use crate::members::after_byte;
 use crate::type_name::TypeName;
+use crate::word::after_byte;
 use std::alloc::{AllocError, AllocFailed, Global};
 use thiserror::Error;
 
@@ -84,7 +84,7 @@ impl<T: Drop> From<AllocFailed<T>> for LineFault {
 }
 
 /// What stands in front of the first tab or newline, and the rest from there on.
-pub(crate) fn split_field(text: &[u8]) -> (&[u8], &[u8])
+pub fn split_field(text: &[u8]) -> (&[u8], &[u8])
     ensures whole { text.now ≡ result.0.now ++ result.1.now }
     ensures inner { Are is_inner result.0.now }
     ensures end { Ends is_inner result.1.now }

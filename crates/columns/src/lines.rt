@@ -128,7 +128,7 @@ fn read_columns<'a>(
 }
 
 /// What follows these bytes, if the text begins with them.
-fn after_front<'a>(front: &[u8], text: &'a [u8]) -> Option<&'a [u8]>
+pub(crate) fn after_front<'a>(front: &[u8], text: &'a [u8]) -> Option<&'a [u8]>
     ensures some { IfSome result (λ rest. text.now ≡ front.now ++ rest.now) }
     ensures none { IfNone result (BeginsNot front.now text.now) }
 {

@@ -10,6 +10,7 @@ ghost use Rattle.columns.specs.declared.members.MembersFault.TheVariants.{Memory
 use crate::escape::{Layer, WithEscapes, unescape_front};
 use crate::hex_digits::{HexText, read_hex};
 use crate::member::{Member, is_text};
+use crate::word::after_byte;
 use std::alloc::{AllocError, AllocFailed, Global};
 use std::fmt;
 
@@ -75,20 +76,6 @@ pub(crate) fn read_members(
         return Err(MembersFault::Text(left.len()));
     }
     Ok(members)
-}
-
-/// What follows this byte, if the text begins with it.
-pub(crate) fn after_byte(byte: u8, text: &[u8]) -> Option<&[u8]>
-    ensures some { IfSome result (λ rest. text.now ≡ byte ∷ rest.now) }
-    ensures none { IfNone result (Ends (λ b. b == byte) text.now) }
-{
-    let [first, rest @ ..] = text else {
-        return None;
-    };
-    if *first != byte {
-        return None;
-    }
-    Some(rest)
 }
 
 /// Whether the closing parenthesis is all that is left.

@@ -4,7 +4,6 @@ pub mod FaultsAfter
 pub mod FieldEnds
 mod TextDigests
 pub mod LineReading
-pub mod NameCodes
 mod Names
 pub mod Supplies
 pub mod TablePlaces

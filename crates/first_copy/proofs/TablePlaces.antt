@@ -16,10 +16,6 @@ use Rattle.first_copy.specs.RowLines.{IsRowAt, IsWrongRow}
 use Rattle.first_copy.specs.declared.fault.RowFault.TheVariants.{Table, Fields, Image, Memory}
 use Rattle.first_copy.specs.RowFields.{IsWrongField, IsWrongAmong, field_end}
 
--- what follows the first of two parts begins with the second
-pub behind_first : (a b line rest more : List ℕ) → line ≡ a ++ rest → line ≡ (a ++ b) ++ more → rest ≡ b ++ more
-behind_first a b line rest more one both = append_cancel_left a rest (b ++ more) (sym one ∙ both ∙ append_assoc a b more)
-
 -- none of the tables in front of this place, and not the one there
 pub none_further : (tables : List DescribedTable) (line : List ℕ) (n : ℕ) (here : DescribedTable) →
     ((place : ℕ) (table : DescribedTable) → place < n → slice_get tables place ≡ Some table → BeginsNot (table_front (described_table table)) line) →

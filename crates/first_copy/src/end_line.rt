@@ -3,9 +3,7 @@
 ghost use Rattle.std.specs.Prelude.{IfSome};
 ghost use Rattle.first_copy.specs.CopyLines.{IsEndLine};
 
-use crate::line_fields::cut_field;
-use crate::table_front::after_byte;
-use columns::read_bits_field;
+use columns::{after_byte, read_bits_field, split_field};
 
 /// The number that the line says, if it is the one at the end.
 pub(crate) fn read_end(line: &[u8]) -> Option<u64>
@@ -15,7 +13,7 @@ pub(crate) fn read_end(line: &[u8]) -> Option<u64>
     let rest = after_byte(b'n', rest)?;
     let rest = after_byte(b'd', rest)?;
     let rest = after_byte(b'\t', rest)?;
-    let (digits, behind) = cut_field(rest);
+    let (digits, behind) = split_field(rest);
     let tail = after_byte(b'\n', behind)?;
     if tail.len() > 0 {
         return None;

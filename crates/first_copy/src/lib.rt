@@ -10,7 +10,6 @@ mod filling;
 mod head;
 pub mod laws;
 mod line_cells;
-mod line_fields;
 mod loader;
 mod places;
 mod row_reader;

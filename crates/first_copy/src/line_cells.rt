@@ -12,10 +12,10 @@ ghost use Rattle.columns.specs.declared.value.field_fault.FieldFault.TheVariants
 ghost use Rattle.std.specs.Prelude.{IsTrue};
 
 use crate::fault::RowFault;
-use crate::line_fields::cut_field;
 use crate::places::Place;
-use crate::table_front::after_byte;
-use columns::{CharacterSet, Column, FieldFault, WrittenCell, is_null_field};
+use columns::{
+    CharacterSet, Column, FieldFault, WrittenCell, after_byte, is_null_field, split_field,
+};
 use std::alloc::Global;
 
 const TAB: u8 = b'\t';
@@ -77,7 +77,7 @@ fn read_field<'a>(
         → MatchResult result (λ read. read.now ≡ rest) (λ fault. fault ≡ row.Memory) }
     ensures fault { IfErr result (IsWrongField (vec_len places.old + 1) column.now end text.now) }
 {
-    let (field, behind) = cut_field(text);
+    let (field, behind) = split_field(text);
     let Some(rest) = after_byte(end, behind) else {
         if behind.is_empty() {
             return Err(RowFault::Unended);

@@ -11,8 +11,8 @@ use crate::value::decimal::Decimal;
 use crate::value::digits::is_zero;
 use crate::value::field_dates::split_sign;
 use crate::value::field_fault::FieldFault;
-use crate::value::field_parts::take_byte;
 use crate::value::whole::{are_digits, is_numeral};
+use crate::word::after_byte;
 
 impl Decimal {
     /// The value that a field is in a column with so many digits, and so many of them after the point: digits, at least
@@ -86,7 +86,7 @@ fn cut_point(scale: u8, text: &[u8]) -> Option<(&[u8], &[u8])>
     }
     let place = text.len().checked_sub(usize::from(scale) + 1)?;
     let (whole, rest) = text.split_at(place);
-    let fraction = take_byte(b'.', rest)?;
+    let fraction = after_byte(b'.', rest)?;
     Some((whole, fraction))
 }
 

@@ -9,6 +9,7 @@ ghost use Rattle.columns.specs.FieldForms.{IsDateRange, IsClockRange, clock_fron
 
 use crate::value::fraction::Fraction;
 use crate::value::whole::read_whole;
+use crate::word::after_byte;
 
 /// The number of so many decimal digits that a text begins with, and what follows them.
 pub(crate) fn take_digits(count: usize, text: &[u8]) -> Option<(u32, &[u8])>
@@ -43,18 +44,6 @@ fn read_digits(count: usize, text: &[u8]) -> Option<u32>
     Some(number)
 }
 
-/// What follows this byte, if the text begins with it.
-pub(crate) fn take_byte(byte: u8, text: &[u8]) -> Option<&[u8]>
-    ensures found { IfSome result (λ rest. text.now ≡ byte ∷ rest.now) }
-    ensures only { (rest : List ℕ) → text.now ≡ byte ∷ rest →
-        IsSomeAnd result (λ found. found.now ≡ rest) }
-{
-    match text {
-        [first, rest @ ..] => { if *first == byte { Some(rest) } else { None } }
-        _ => None,
-    }
-}
-
 /// Two digits, this byte in front of them.
 fn take_two(byte: u8, text: &[u8]) -> Option<(u8, &[u8])>
     ensures small { IfSome result (λ taken. taken.0 < 100) }
@@ -63,7 +52,7 @@ fn take_two(byte: u8, text: &[u8]) -> Option<(u8, &[u8])>
     ensures only { (n : ℕ) (rest : List ℕ) → n < 100 → text.now ≡ byte ∷ (zero_padded 2 n ++ rest) →
         IsSomeAnd result (λ taken. (taken.0 ≡ n) × (taken.1.now ≡ rest)) }
 {
-    let rest = take_byte(byte, text)?;
+    let rest = after_byte(byte, text)?;
     let (number, rest) = take_digits(2, rest)?;
     Some((number as u8, rest))
 }
@@ -127,7 +116,7 @@ pub(crate) fn read_fraction(digits: u8, text: &[u8]) -> Option<Fraction>
         }
         return Fraction::new(0, 0);
     }
-    let rest = take_byte(b'.', text)?;
+    let rest = after_byte(b'.', text)?;
     let number = read_digits(usize::from(digits), rest)?;
     Fraction::new(digits, number)
 }

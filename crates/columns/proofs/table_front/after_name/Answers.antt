@@ -1,7 +1,7 @@
 use Rattle.std.proofs.Common.{◌++◌, ◌∙◌, sym}
 use Rattle.std.proofs.lemmas.List.{drop_all}
 use Rattle.columns.specs.Lines.{field}
-use Rattle.first_copy.proofs.table_front.after_name.Goals as goal
+use Rattle.columns.proofs.table_front.after_name.Goals as goal
 
 pub returns-clause-some : goal.returns-clause-some
 returns-clause-some c =

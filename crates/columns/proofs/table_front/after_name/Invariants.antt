@@ -1,6 +1,6 @@
 use Rattle.std.proofs.Common.{◌≡◌, ◌++◌, List, ℕ, drop}
 use Rattle.columns.specs.Lines.{field}
-use Rattle.first_copy.proofs.table_front.after_name.Given as goal
+use Rattle.columns.proofs.table_front.after_name.Given as goal
 
 abbrev pub invariant-loop-byte : goal.invariant-loop-byte
 invariant-loop-byte l = record {
