@@ -19,7 +19,6 @@ pub use Rattle.columns.specs.Text.{zero_padded}
 pub use Rattle.columns.specs.TimeRange.{is_time}
 pub use Rattle.columns.specs.Times.{clock_text, fraction_text, clock_number, even_digits, fraction_size, is_fraction}
 pub use Rattle.columns.specs.TypeText.{arguments_text, sign_text, first_number}
-pub use Rattle.columns.specs.TypedValues.{second_number}
 pub use Rattle.columns.specs.Word.{Are, Ends}
 pub use Rattle.columns.specs.declared.arguments.Arguments.{Arguments}
 pub use Rattle.columns.specs.declared.escape.Layer.TheVariants.{Client, Quoted}

@@ -1,7 +1,7 @@
 -- Which cell a server sends for the value that a field of a line is, by the type of the column: numbers, dates and times
 -- as the client prints them, but a BIT as its number; texts and bytes as their hexadecimal digits. MySQL Reference
 -- Manual, "Data Types" and "String Functions and Operators" (HEX).
-use Rattle.std.specs.Prelude.{◌≡◌, ℕ, ◌*◌, ◌-◌, ◌^◌, ◌<◌, ◌≤◌, List, length, Some, Ok, IsSome, IsOk, ⊤}
+use Rattle.std.specs.Prelude.{◌≡◌, ℕ, ◌^◌, ◌<◌, ◌≤◌, List, length, Some, Ok, IsSome, IsOk, ⊤}
 use Rattle.std.specs.Float.{binary64}
 use Rattle.std.specs.Float.Ieee.{Float}
 use Rattle.std.specs.Str.Parse.{IsNumeral}
@@ -12,8 +12,6 @@ use Rattle.binlog.specs.Cell.CellValue.{bytes_cell}
 use Rattle.columns.specs.Integers.{IsIntegerCell}
 use Rattle.columns.specs.RealCells.{IsFloatValue, IsDoubleValue}
 use Rattle.columns.specs.Decimals.{decimal_bytes}
-use Rattle.columns.specs.TypeText.{first_number}
-use Rattle.columns.specs.TypedValues.{second_number}
 use Rattle.columns.specs.Bits.{bit_bytes}
 use Rattle.columns.specs.Dates.{year_text, year_bytes, date_text, date_bytes}
 use Rattle.columns.specs.Moments.{moment_text, moment_bytes}
@@ -26,12 +24,14 @@ use Rattle.columns.specs.FieldForms.{IsDateForm, IsMomentForm, IsSpanForm}
 use Rattle.columns.specs.FieldDecimals.{IsDecimalField, IsDecimalForm}
 use Rattle.columns.specs.declared.arguments.Arguments.{Arguments}
 use Rattle.columns.specs.declared.character_set.CharacterSet.{CharacterSet}
+use Rattle.columns.specs.Shapes.{shape_of}
+use Rattle.columns.specs.declared.shape.Shape.{Shape}
+use Rattle.columns.specs.declared.shape.Shape.TheVariants as shape
 use Rattle.columns.specs.declared.sign.Sign.{Sign}
 use Rattle.columns.specs.declared.type_name.TypeName.{TypeName}
 use Rattle.columns.specs.declared.type_name.TypeName.TheVariants as name
 use Rattle.columns.specs.declared.value.integer.Integer.{Integer}
 use Rattle.columns.specs.declared.value.integer.IntegerWidth.{IntegerWidth}
-use Rattle.columns.specs.declared.value.integer.IntegerWidth.TheVariants.{One, Two, Three, Four, Eight}
 use Rattle.columns.specs.declared.value.decimal.Decimal.{Decimal}
 use Rattle.columns.specs.declared.value.year.Year.{Year}
 use Rattle.columns.specs.declared.value.date.Date.{Date}
@@ -93,36 +93,26 @@ IsHexFieldCell most kind set field cell =
     (all bytes : List ℕ) × (decode_of field ≡ Ok all) × HasLength kind most (length all) × IsPadded (padding kind set) bytes all ×
     IsUnpadded (padding kind set) bytes × (cell ≡ bytes_cell bytes)
 
--- The cell is that of the value that the field is in a column of this type, as a server sends it. A character takes at
--- most four bytes in each character set.
+-- The cell is that of the value that the field is in a column of this shape, as a server sends it; of a text and of bytes the type
+-- counts as well.
+abbrev pub IsShapeFieldCell : Shape → TypeName → Sign → CharacterSet → List ℕ → CellValue → Type 0
+IsShapeFieldCell (shape.Integer width) kind sign set field cell = IsIntegerFieldCell width sign field cell
+IsShapeFieldCell (shape.Decimal precision scale) kind sign set field cell = IsDecimalFieldCell precision scale field cell
+IsShapeFieldCell shape.Float kind sign set field cell = IsFloatFieldCell field cell
+IsShapeFieldCell shape.Double kind sign set field cell = IsDoubleFieldCell field cell
+IsShapeFieldCell (shape.Bits bits) kind sign set field cell = IsBitsFieldCell bits field cell
+IsShapeFieldCell shape.Year kind sign set field cell = IsYearFieldCell field cell
+IsShapeFieldCell shape.Date kind sign set field cell = IsDateFieldCell field cell
+IsShapeFieldCell (shape.Time digits) kind sign set field cell = IsTimeFieldCell digits field cell
+IsShapeFieldCell (shape.Datetime digits) kind sign set field cell = IsDatetimeFieldCell digits field cell
+IsShapeFieldCell (shape.Timestamp digits) kind sign set field cell = IsTimestampFieldCell digits field cell
+IsShapeFieldCell (shape.Text most) kind sign set field cell = IsHexFieldCell most kind set field cell
+IsShapeFieldCell (shape.Bytes most) kind sign set field cell = IsHexFieldCell most kind set field cell
+IsShapeFieldCell shape.Other kind sign set field cell = ⊥
+
+-- The same in a column of this type.
 abbrev pub IsFieldCell : TypeName → Arguments → Sign → CharacterSet → List ℕ → CellValue → Type 0
-IsFieldCell name.Tinyint numbers sign set field cell = IsIntegerFieldCell One sign field cell
-IsFieldCell name.Smallint numbers sign set field cell = IsIntegerFieldCell Two sign field cell
-IsFieldCell name.Mediumint numbers sign set field cell = IsIntegerFieldCell Three sign field cell
-IsFieldCell name.Int numbers sign set field cell = IsIntegerFieldCell Four sign field cell
-IsFieldCell name.Bigint numbers sign set field cell = IsIntegerFieldCell Eight sign field cell
-IsFieldCell name.Decimal numbers sign set field cell = IsDecimalFieldCell (first_number numbers) (second_number numbers) field cell
-IsFieldCell name.Float numbers sign set field cell = IsFloatFieldCell field cell
-IsFieldCell name.Double numbers sign set field cell = IsDoubleFieldCell field cell
-IsFieldCell name.Bit numbers sign set field cell = IsBitsFieldCell (first_number numbers) field cell
-IsFieldCell name.Year numbers sign set field cell = IsYearFieldCell field cell
-IsFieldCell name.Date numbers sign set field cell = IsDateFieldCell field cell
-IsFieldCell name.Time numbers sign set field cell = IsTimeFieldCell (first_number numbers) field cell
-IsFieldCell name.Datetime numbers sign set field cell = IsDatetimeFieldCell (first_number numbers) field cell
-IsFieldCell name.Timestamp numbers sign set field cell = IsTimestampFieldCell (first_number numbers) field cell
-IsFieldCell name.Char numbers sign set field cell = IsHexFieldCell (4 * first_number numbers) name.Char set field cell
-IsFieldCell name.Varchar numbers sign set field cell = IsHexFieldCell (4 * first_number numbers) name.Varchar set field cell
-IsFieldCell name.Tinytext numbers sign set field cell = IsHexFieldCell (2 ^ 8 - 1) name.Tinytext set field cell
-IsFieldCell name.Text numbers sign set field cell = IsHexFieldCell (2 ^ 16 - 1) name.Text set field cell
-IsFieldCell name.Mediumtext numbers sign set field cell = IsHexFieldCell (2 ^ 24 - 1) name.Mediumtext set field cell
-IsFieldCell name.Longtext numbers sign set field cell = IsHexFieldCell (2 ^ 32 - 1) name.Longtext set field cell
-IsFieldCell name.Binary numbers sign set field cell = IsHexFieldCell (first_number numbers) name.Binary set field cell
-IsFieldCell name.Varbinary numbers sign set field cell = IsHexFieldCell (first_number numbers) name.Varbinary set field cell
-IsFieldCell name.Tinyblob numbers sign set field cell = IsHexFieldCell (2 ^ 8 - 1) name.Tinyblob set field cell
-IsFieldCell name.Blob numbers sign set field cell = IsHexFieldCell (2 ^ 16 - 1) name.Blob set field cell
-IsFieldCell name.Mediumblob numbers sign set field cell = IsHexFieldCell (2 ^ 24 - 1) name.Mediumblob set field cell
-IsFieldCell name.Longblob numbers sign set field cell = IsHexFieldCell (2 ^ 32 - 1) name.Longblob set field cell
-IsFieldCell _ numbers sign set field cell = ⊥
+IsFieldCell kind numbers sign set field cell = IsShapeFieldCell (shape_of kind numbers) kind sign set field cell
 
 abbrev pub AreHexDigits : List ℕ → Type 0
 AreHexDigits field = IsOk (decode_of field)
@@ -131,35 +121,25 @@ AreHexDigits field = IsOk (decode_of field)
 abbrev pub IsReal : List ℕ → Type 0
 IsReal field = IsSome (parse_float binary64 field)
 
--- The field is of the form that fields of a column of this type have.
+-- The field is of the form that fields of a column of this shape have.
+abbrev pub IsShapeForm : Shape → List ℕ → Type 0
+IsShapeForm (shape.Integer width) field = IsSignedNumeral field
+IsShapeForm (shape.Decimal precision scale) field = IsDecimalForm scale field
+IsShapeForm shape.Float field = IsReal field
+IsShapeForm shape.Double field = IsReal field
+IsShapeForm (shape.Bits bits) field = IsNumeral 10 field
+IsShapeForm shape.Year field = AreFourDigits field
+IsShapeForm shape.Date field = IsDateForm field
+IsShapeForm (shape.Time digits) field = IsSpanForm digits field
+IsShapeForm (shape.Datetime digits) field = IsMomentForm digits field
+IsShapeForm (shape.Timestamp digits) field = IsMomentForm digits field
+IsShapeForm (shape.Text most) field = AreHexDigits field
+IsShapeForm (shape.Bytes most) field = AreHexDigits field
+IsShapeForm shape.Other field = ⊥
+
+-- The same in a column of this type.
 abbrev pub IsFieldForm : TypeName → Arguments → List ℕ → Type 0
-IsFieldForm name.Tinyint numbers field = IsSignedNumeral field
-IsFieldForm name.Smallint numbers field = IsSignedNumeral field
-IsFieldForm name.Mediumint numbers field = IsSignedNumeral field
-IsFieldForm name.Int numbers field = IsSignedNumeral field
-IsFieldForm name.Bigint numbers field = IsSignedNumeral field
-IsFieldForm name.Decimal numbers field = IsDecimalForm (second_number numbers) field
-IsFieldForm name.Float numbers field = IsReal field
-IsFieldForm name.Double numbers field = IsReal field
-IsFieldForm name.Bit numbers field = IsNumeral 10 field
-IsFieldForm name.Year numbers field = AreFourDigits field
-IsFieldForm name.Date numbers field = IsDateForm field
-IsFieldForm name.Time numbers field = IsSpanForm (first_number numbers) field
-IsFieldForm name.Datetime numbers field = IsMomentForm (first_number numbers) field
-IsFieldForm name.Timestamp numbers field = IsMomentForm (first_number numbers) field
-IsFieldForm name.Char numbers field = AreHexDigits field
-IsFieldForm name.Varchar numbers field = AreHexDigits field
-IsFieldForm name.Tinytext numbers field = AreHexDigits field
-IsFieldForm name.Text numbers field = AreHexDigits field
-IsFieldForm name.Mediumtext numbers field = AreHexDigits field
-IsFieldForm name.Longtext numbers field = AreHexDigits field
-IsFieldForm name.Binary numbers field = AreHexDigits field
-IsFieldForm name.Varbinary numbers field = AreHexDigits field
-IsFieldForm name.Tinyblob numbers field = AreHexDigits field
-IsFieldForm name.Blob numbers field = AreHexDigits field
-IsFieldForm name.Mediumblob numbers field = AreHexDigits field
-IsFieldForm name.Longblob numbers field = AreHexDigits field
-IsFieldForm _ numbers field = ⊥
+IsFieldForm kind numbers field = IsShapeForm (shape_of kind numbers) field
 
 -- What is wrong with a field: it is not of the form; or it is, and no cell is that of it, as a clause of its own says;
 -- or memory was refused.

@@ -19,6 +19,7 @@ pub mod StampParts
 pub mod CharacterSets
 pub mod TextBytes
 pub mod Choices
+pub mod Shapes
 pub mod TypedValues
 pub mod Padding
 pub mod Fields

@@ -23,6 +23,11 @@ first_number NoNumber = 0
 first_number (OneNumber n) = n
 first_number (TwoNumbers n m) = n
 
+-- the second number, and 0 where it has none
+abbrev pub second_number : Arguments → ℕ
+second_number (TwoNumbers n m) = m
+second_number _ = 0
+
 abbrev pub sign_text : Sign → List ℕ
 sign_text Signed = []
 sign_text Unsigned = codes " unsigned"

@@ -1,9 +1,9 @@
 -- Which value the cell of a column stands for, by the column's type. MySQL Reference Manual, "Data Types" and "Data Type
 -- Storage Requirements".
-use Rattle.std.specs.Prelude.{Some, ◌≡◌, ℕ, ◌+◌, ◌*◌, ◌-◌, ◌^◌, ◌<◌, ◌≤◌, length}
+use Rattle.std.specs.Prelude.{Some, ◌≡◌, ℕ, ◌+◌, ◌-◌, ◌^◌, ◌<◌, ◌≤◌, length}
 use Rattle.binlog.specs.Cell.{CellValue}
 use Rattle.binlog.specs.Cell.CellValue.{bytes_cell}
-use Rattle.columns.specs.Integers.{IsIntegerCell}
+use Rattle.columns.specs.Integers.{IsIntegerCell, byte_count}
 use Rattle.columns.specs.RealCells.{IsFloatValue, IsDoubleValue}
 use Rattle.columns.specs.Cells.{number_fault, bytes_fault, within_fault}
 use Rattle.columns.specs.declared.value.fault.CellFault.{CellFault}
@@ -17,19 +17,15 @@ use Rattle.columns.specs.Spans.{span_bytes, IsSameSpan}
 use Rattle.columns.specs.Stamps.{stamp_bytes, IsSameStamp}
 use Rattle.columns.specs.Times.{fraction_size}
 use Rattle.columns.specs.declared.arguments.Arguments.{Arguments}
-use Rattle.columns.specs.declared.arguments.Arguments.TheVariants.{TwoNumbers}
+use Rattle.columns.specs.Shapes.{shape_of}
+use Rattle.columns.specs.declared.shape.Shape.{Shape}
+use Rattle.columns.specs.declared.shape.Shape.TheVariants as shape
 use Rattle.columns.specs.declared.sign.Sign.{Sign}
 use Rattle.columns.specs.declared.type_name.TypeName.{TypeName}
 use Rattle.columns.specs.declared.type_name.TypeName.TheVariants as name
 use Rattle.columns.specs.declared.value.integer.IntegerWidth.{IntegerWidth}
-use Rattle.columns.specs.declared.value.integer.IntegerWidth.TheVariants.{One, Two, Three, Four, Eight}
 use Rattle.columns.specs.declared.typed_value.TypedValue.{TypedValue}
 use Rattle.columns.specs.declared.typed_value.TypedValue.TheVariants.{Integer, Decimal, Float, Double, Bits, Year, Date, Time, Datetime, Timestamp, Text, Bytes}
-
--- the second number of a type, and 0 where it has none
-abbrev pub second_number : Arguments → ℕ
-second_number (TwoNumbers n m) = m
-second_number _ = 0
 
 abbrev pub IsIntegerOf : IntegerWidth → Sign → TypedValue → CellValue → Type 0
 IsIntegerOf width sign (Integer integer) cell = IsIntegerCell width sign integer cell
@@ -87,35 +83,25 @@ abbrev pub zeros_after : TypeName → Arguments → ℕ → ℕ
 zeros_after name.Binary numbers length = first_number numbers - length
 zeros_after _ numbers length = 0
 
--- The cell is that of the value in a column of this type. A character takes at most four bytes in each character set.
+-- The cell is that of the value in a column of this shape.
+abbrev pub IsOfShape : Shape → Sign → TypedValue → CellValue → Type 0
+IsOfShape (shape.Integer width) sign value cell = IsIntegerOf width sign value cell
+IsOfShape (shape.Decimal precision scale) sign value cell = IsDecimalOf precision scale value cell
+IsOfShape shape.Float sign value cell = IsFloatOf value cell
+IsOfShape shape.Double sign value cell = IsDoubleOf value cell
+IsOfShape (shape.Bits bits) sign value cell = IsBitsOf bits value cell
+IsOfShape shape.Year sign value cell = IsYearOf value cell
+IsOfShape shape.Date sign value cell = IsDateOf value cell
+IsOfShape (shape.Time digits) sign value cell = IsTimeOf digits value cell
+IsOfShape (shape.Datetime digits) sign value cell = IsDatetimeOf digits value cell
+IsOfShape (shape.Timestamp digits) sign value cell = IsTimestampOf digits value cell
+IsOfShape (shape.Text most) sign value cell = IsTextWithin most value cell
+IsOfShape (shape.Bytes most) sign value cell = AreBytesWithin most value cell
+IsOfShape shape.Other sign value cell = ⊥
+
+-- The cell is that of the value in a column of this type.
 abbrev pub IsValueOf : TypeName → Arguments → Sign → TypedValue → CellValue → Type 0
-IsValueOf name.Tinyint numbers sign value cell = IsIntegerOf One sign value cell
-IsValueOf name.Smallint numbers sign value cell = IsIntegerOf Two sign value cell
-IsValueOf name.Mediumint numbers sign value cell = IsIntegerOf Three sign value cell
-IsValueOf name.Int numbers sign value cell = IsIntegerOf Four sign value cell
-IsValueOf name.Bigint numbers sign value cell = IsIntegerOf Eight sign value cell
-IsValueOf name.Decimal numbers sign value cell = IsDecimalOf (first_number numbers) (second_number numbers) value cell
-IsValueOf name.Float numbers sign value cell = IsFloatOf value cell
-IsValueOf name.Double numbers sign value cell = IsDoubleOf value cell
-IsValueOf name.Bit numbers sign value cell = IsBitsOf (first_number numbers) value cell
-IsValueOf name.Year numbers sign value cell = IsYearOf value cell
-IsValueOf name.Date numbers sign value cell = IsDateOf value cell
-IsValueOf name.Time numbers sign value cell = IsTimeOf (first_number numbers) value cell
-IsValueOf name.Datetime numbers sign value cell = IsDatetimeOf (first_number numbers) value cell
-IsValueOf name.Timestamp numbers sign value cell = IsTimestampOf (first_number numbers) value cell
-IsValueOf name.Char numbers sign value cell = IsTextWithin (4 * first_number numbers) value cell
-IsValueOf name.Varchar numbers sign value cell = IsTextWithin (4 * first_number numbers) value cell
-IsValueOf name.Tinytext numbers sign value cell = IsTextWithin (2 ^ 8 - 1) value cell
-IsValueOf name.Text numbers sign value cell = IsTextWithin (2 ^ 16 - 1) value cell
-IsValueOf name.Mediumtext numbers sign value cell = IsTextWithin (2 ^ 24 - 1) value cell
-IsValueOf name.Longtext numbers sign value cell = IsTextWithin (2 ^ 32 - 1) value cell
-IsValueOf name.Binary numbers sign value cell = AreBytesWithin (first_number numbers) value cell
-IsValueOf name.Varbinary numbers sign value cell = AreBytesWithin (first_number numbers) value cell
-IsValueOf name.Tinyblob numbers sign value cell = AreBytesWithin (2 ^ 8 - 1) value cell
-IsValueOf name.Blob numbers sign value cell = AreBytesWithin (2 ^ 16 - 1) value cell
-IsValueOf name.Mediumblob numbers sign value cell = AreBytesWithin (2 ^ 24 - 1) value cell
-IsValueOf name.Longblob numbers sign value cell = AreBytesWithin (2 ^ 32 - 1) value cell
-IsValueOf _ numbers sign value cell = ⊥
+IsValueOf kind numbers sign value cell = IsOfShape (shape_of kind numbers) sign value cell
 
 -- Two values are of one kind, and the same in each part; FLOAT and DOUBLE are the same numbers with the same sign.
 abbrev pub IsSameValue : TypedValue → TypedValue → Type 0
@@ -133,32 +119,22 @@ IsSameValue (Text a) (Text b) = a.now ≡ b.now
 IsSameValue (Bytes a) (Bytes b) = a.now ≡ b.now
 IsSameValue _ _ = ⊥
 
--- What is wrong with a cell that stands for no value in a column of this type.
+-- What is wrong with a cell that stands for no value in a column of this shape.
+abbrev pub IsShapeFault : Shape → CellValue → CellFault → Type 0
+IsShapeFault (shape.Integer width) cell fault = number_fault (byte_count width) cell ≡ Some fault
+IsShapeFault (shape.Decimal precision scale) cell fault = fault ≡ bytes_fault (decimal_size precision scale) cell
+IsShapeFault shape.Float cell fault = fault ≡ bytes_fault 4 cell
+IsShapeFault shape.Double cell fault = fault ≡ bytes_fault 8 cell
+IsShapeFault (shape.Bits bits) cell fault = fault ≡ bytes_fault (bit_size bits) cell
+IsShapeFault shape.Year cell fault = fault ≡ bytes_fault 1 cell
+IsShapeFault shape.Date cell fault = fault ≡ bytes_fault 3 cell
+IsShapeFault (shape.Time digits) cell fault = fault ≡ bytes_fault (3 + fraction_size digits) cell
+IsShapeFault (shape.Datetime digits) cell fault = fault ≡ bytes_fault (5 + fraction_size digits) cell
+IsShapeFault (shape.Timestamp digits) cell fault = fault ≡ bytes_fault (4 + fraction_size digits) cell
+IsShapeFault (shape.Text most) cell fault = fault ≡ within_fault cell
+IsShapeFault (shape.Bytes most) cell fault = fault ≡ within_fault cell
+IsShapeFault shape.Other cell fault = fault ≡ Kind
+
+-- The same in a column of this type.
 abbrev pub IsCellFault : TypeName → Arguments → CellValue → CellFault → Type 0
-IsCellFault name.Tinyint numbers cell fault = number_fault 1 cell ≡ Some fault
-IsCellFault name.Smallint numbers cell fault = number_fault 2 cell ≡ Some fault
-IsCellFault name.Mediumint numbers cell fault = number_fault 3 cell ≡ Some fault
-IsCellFault name.Int numbers cell fault = number_fault 4 cell ≡ Some fault
-IsCellFault name.Bigint numbers cell fault = number_fault 8 cell ≡ Some fault
-IsCellFault name.Decimal numbers cell fault = fault ≡ bytes_fault (decimal_size (first_number numbers) (second_number numbers)) cell
-IsCellFault name.Float numbers cell fault = fault ≡ bytes_fault 4 cell
-IsCellFault name.Double numbers cell fault = fault ≡ bytes_fault 8 cell
-IsCellFault name.Bit numbers cell fault = fault ≡ bytes_fault (bit_size (first_number numbers)) cell
-IsCellFault name.Year numbers cell fault = fault ≡ bytes_fault 1 cell
-IsCellFault name.Date numbers cell fault = fault ≡ bytes_fault 3 cell
-IsCellFault name.Time numbers cell fault = fault ≡ bytes_fault (3 + fraction_size (first_number numbers)) cell
-IsCellFault name.Datetime numbers cell fault = fault ≡ bytes_fault (5 + fraction_size (first_number numbers)) cell
-IsCellFault name.Timestamp numbers cell fault = fault ≡ bytes_fault (4 + fraction_size (first_number numbers)) cell
-IsCellFault name.Char numbers cell fault = fault ≡ within_fault cell
-IsCellFault name.Varchar numbers cell fault = fault ≡ within_fault cell
-IsCellFault name.Tinytext numbers cell fault = fault ≡ within_fault cell
-IsCellFault name.Text numbers cell fault = fault ≡ within_fault cell
-IsCellFault name.Mediumtext numbers cell fault = fault ≡ within_fault cell
-IsCellFault name.Longtext numbers cell fault = fault ≡ within_fault cell
-IsCellFault name.Binary numbers cell fault = fault ≡ within_fault cell
-IsCellFault name.Varbinary numbers cell fault = fault ≡ within_fault cell
-IsCellFault name.Tinyblob numbers cell fault = fault ≡ within_fault cell
-IsCellFault name.Blob numbers cell fault = fault ≡ within_fault cell
-IsCellFault name.Mediumblob numbers cell fault = fault ≡ within_fault cell
-IsCellFault name.Longblob numbers cell fault = fault ≡ within_fault cell
-IsCellFault _ numbers cell fault = fault ≡ Kind
+IsCellFault kind numbers cell fault = IsShapeFault (shape_of kind numbers) cell fault

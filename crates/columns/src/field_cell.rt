@@ -1,27 +1,24 @@
 //! The cell of the value that a field of a line is, of any type.
 
-ghost use Rattle.std.specs.Prelude.{◌≡◌, ◌≤◌, ◌<◌, ◌++◌, ℕ, List, length, Ok, Err, ⊤, IsTrue, IfOk, IfErr, OnErr, MatchBool, MatchResult};
+ghost use Rattle.std.specs.Prelude.{◌≡◌, ◌≤◌, ◌<◌, ◌++◌, ℕ, List, length, Ok, Err, ⊤, IfOk, IfErr, OnErr, MatchBool, MatchResult};
 ghost use Rattle.std.specs.Str.Parse.{IsNumeral};
 ghost use Rattle.binlog.specs.Cell.{CellValue};
-ghost use Rattle.columns.specs.DataType.{is_digits};
-ghost use Rattle.columns.specs.TypeText.{first_number};
-ghost use Rattle.columns.specs.TypedValues.{second_number};
+ghost use Rattle.columns.specs.Shapes.{IsShape};
 ghost use Rattle.columns.specs.WrittenCells.{IsWritten};
 ghost use Rattle.columns.specs.Fields.{IsSignedNumeral, AreFourDigits};
 ghost use Rattle.columns.specs.FieldForms.{IsDateForm, IsMomentForm, IsSpanForm};
 ghost use Rattle.columns.specs.FieldDecimals.{IsDecimalForm};
-ghost use Rattle.columns.specs.FieldCells.{IsIntegerFieldCell, IsDecimalFieldCell, IsFloatFieldCell, IsDoubleFieldCell, IsBitsFieldCell, IsYearFieldCell, IsDateFieldCell, IsTimeFieldCell, IsDatetimeFieldCell, IsTimestampFieldCell, HasLength, IsHexFieldCell, AreHexDigits, IsReal, IsFieldCell, IsFieldForm, IsCellFieldFault};
+ghost use Rattle.columns.specs.FieldCells.{IsIntegerFieldCell, IsDecimalFieldCell, IsFloatFieldCell, IsDoubleFieldCell, IsBitsFieldCell, IsYearFieldCell, IsDateFieldCell, IsTimeFieldCell, IsDatetimeFieldCell, IsTimestampFieldCell, HasLength, IsHexFieldCell, AreHexDigits, IsReal, IsFieldCell, IsFieldForm, IsShapeFieldCell, IsShapeForm, IsCellFieldFault};
 ghost use Rattle.columns.specs.FieldWrites.{WritesField};
 ghost use Rattle.columns.specs.declared.value.field_fault.FieldFault.TheVariants as fault;
 ghost use Rattle.columns.specs.declared.written_cell.WrittenCell.TheVariants as written;
 
-use crate::arguments::Arguments;
 use crate::character_set::CharacterSet;
 use crate::data_type::DataType;
 use crate::field_bytes::read_hex_field;
+use crate::shape::Shape;
 use crate::sign::Sign;
 use crate::type_name::TypeName;
-use crate::typed_value::{bits_of, digits_of};
 use crate::value::bit::write_bits;
 use crate::value::bytes::append;
 use crate::value::date::Date;
@@ -78,51 +75,35 @@ pub(crate) fn write_any(
     ensures { WritesField (IsFieldCell kind.name kind.numbers kind.sign set field.now)
         (IsFieldForm kind.name kind.numbers field.now) result out.old.items out.new.items }
 {
-    match kind.name {
-        TypeName::Tinyint => integer_cell(IntegerWidth::One, kind.sign, field),
-        TypeName::Smallint => integer_cell(IntegerWidth::Two, kind.sign, field),
-        TypeName::Mediumint => integer_cell(IntegerWidth::Three, kind.sign, field),
-        TypeName::Int => integer_cell(IntegerWidth::Four, kind.sign, field),
-        TypeName::Bigint => integer_cell(IntegerWidth::Eight, kind.sign, field),
-        TypeName::Decimal => write_decimal(kind.numbers, field, out),
-        TypeName::Float => write_float(field, out),
-        TypeName::Double => write_double(field, out),
-        TypeName::Bit => write_bit(bits_of(kind.numbers), field, out),
-        TypeName::Year => write_year(field, out),
-        TypeName::Date => write_date(field, out),
-        TypeName::Time => write_time(digits_of(kind.numbers), field, out),
-        TypeName::Datetime => write_datetime(digits_of(kind.numbers), field, out),
-        TypeName::Timestamp => write_timestamp(digits_of(kind.numbers), field, out),
-        TypeName::Char | TypeName::Varchar => write_hex(
-            4 * kind.numbers.first() as usize,
-            kind,
-            set,
-            alloc,
-            field,
-            out,
-        ),
-        TypeName::Tinytext | TypeName::Tinyblob => write_hex(0xff, kind, set, alloc, field, out),
-        TypeName::Text | TypeName::Blob => write_hex(0xffff, kind, set, alloc, field, out),
-        TypeName::Mediumtext | TypeName::Mediumblob => write_hex(
-            0xff_ffff, kind, set, alloc, field, out,
-        ),
-        TypeName::Longtext | TypeName::Longblob => write_hex(
-            0xffff_ffff,
-            kind,
-            set,
-            alloc,
-            field,
-            out,
-        ),
-        TypeName::Binary | TypeName::Varbinary => write_hex(
-            kind.numbers.first() as usize,
-            kind,
-            set,
-            alloc,
-            field,
-            out,
-        ),
-        _ => Err(FieldFault::Text),
+    write_of_shape(kind.shape(), kind, set, alloc, field, out)
+}
+
+/// Writes the cell of a field in a column of this shape and this type.
+fn write_of_shape(
+    shape: Shape,
+    kind: DataType,
+    set: CharacterSet,
+    alloc: Global,
+    field: &[u8],
+    out: &mut Vec<u8>,
+) -> Result<WrittenCell, FieldFault>
+    requires { IsShape shape }
+    ensures { WritesField (IsShapeFieldCell shape kind.name kind.sign set field.now)
+        (IsShapeForm shape field.now) result out.old.items out.new.items }
+{
+    match shape {
+        Shape::Integer(width) => integer_cell(width, kind.sign, field),
+        Shape::Decimal { precision, scale } => write_decimal(precision, scale, field, out),
+        Shape::Float => write_float(field, out),
+        Shape::Double => write_double(field, out),
+        Shape::Bits(bits) => write_bit(bits, field, out),
+        Shape::Year => write_year(field, out),
+        Shape::Date => write_date(field, out),
+        Shape::Time(digits) => write_time(digits, field, out),
+        Shape::Datetime(digits) => write_datetime(digits, field, out),
+        Shape::Timestamp(digits) => write_timestamp(digits, field, out),
+        Shape::Text(most) | Shape::Bytes(most) => write_hex(most, kind, set, alloc, field, out),
+        Shape::Other => Err(FieldFault::Text),
     }
 }
 
@@ -157,19 +138,19 @@ fn appended(done: Result<(), AllocError>) -> Result<WrittenCell, FieldFault>
 
 /// Writes the cell of a decimal's field.
 fn write_decimal(
-    numbers: Arguments,
+    precision: u8,
+    scale: u8,
     field: &[u8],
     out: &mut Vec<u8>,
 ) -> Result<WrittenCell, FieldFault>
-    requires { IsTrue (is_digits 65 numbers) }
-    ensures { WritesField (IsDecimalFieldCell (first_number numbers)
-        (second_number numbers) field.now) (IsDecimalForm (second_number numbers) field.now) result
-        out.old.items out.new.items }
+    requires some { 1 ≤ precision }
+    requires few { precision ≤ 65 }
+    requires within { scale ≤ precision }
+    requires short { scale ≤ 30 }
+    ensures { WritesField (IsDecimalFieldCell precision scale field.now)
+        (IsDecimalForm scale field.now) result out.old.items out.new.items }
 {
-    let Arguments::TwoNumbers(precision, scale) = numbers else {
-        unreachable!();
-    };
-    match Decimal::read_field(precision as u8, scale as u8, field) {
+    match Decimal::read_field(precision, scale, field) {
         Ok(value) => appended(value.write(out)),
         Err(wrong) => Err(wrong),
     }

@@ -24,10 +24,8 @@ ghost use Rattle.columns.specs.declared.typed_value.TypedValue.{TypedValue};
 use crate::column_type::ColumnType;
 use crate::data_type::DataType;
 use crate::member::Member;
-use crate::one_value as value_by_type;
+use crate::one_value::one_of_shape;
 use crate::sign::Sign as TypeSign;
-use crate::type_name::TypeName;
-use crate::typed_value::{bits_of, digits_of};
 use crate::value::choice::{ordinal_width, read_ordinal, read_set, set_width};
 use crate::value::date::Date;
 use crate::value::decimal::Decimal;
@@ -224,21 +222,5 @@ pub fn one_value(kind: DataType, cell: Cell<'_>)
         IsValueOf kind.name kind.numbers kind.sign a (cell_value cell.entry) →
         IsValueOf kind.name kind.numbers kind.sign b (cell_value cell.entry) → IsSameValue a b }
 {
-    match kind.name {
-        TypeName::Tinyint => value_by_type::one_integer(IntegerWidth::One, kind.sign, cell),
-        TypeName::Smallint => value_by_type::one_integer(IntegerWidth::Two, kind.sign, cell),
-        TypeName::Mediumint => value_by_type::one_integer(IntegerWidth::Three, kind.sign, cell),
-        TypeName::Int => value_by_type::one_integer(IntegerWidth::Four, kind.sign, cell),
-        TypeName::Bigint => value_by_type::one_integer(IntegerWidth::Eight, kind.sign, cell),
-        TypeName::Decimal => value_by_type::one_decimal(kind.numbers, cell),
-        TypeName::Float => value_by_type::one_float(cell),
-        TypeName::Double => value_by_type::one_double(cell),
-        TypeName::Bit => value_by_type::one_bits(bits_of(kind.numbers), cell),
-        TypeName::Year => value_by_type::one_year(cell),
-        TypeName::Date => value_by_type::one_date(cell),
-        TypeName::Time => value_by_type::one_time(digits_of(kind.numbers), cell),
-        TypeName::Datetime => value_by_type::one_datetime(digits_of(kind.numbers), cell),
-        TypeName::Timestamp => value_by_type::one_timestamp(digits_of(kind.numbers), cell),
-        _ => {}
-    }
+    one_of_shape(kind.shape(), kind.sign, cell);
 }

@@ -1,6 +1,6 @@
 //! The members of an ENUM or a SET in the text of its type.
 
-ghost use Rattle.std.specs.Prelude.{◌≡◌, ◌≤◌, ◌<◌, ◌+◌, ◌-◌, ◌∷◌, ◌++◌, ◌==◌, ◌↔◌, [], IsTrue, List, ℕ, Some, IfSome, IfOk, IfErr, IsSomeAnd, MatchResult, IfNone, length, not, drop};
+ghost use Rattle.std.specs.Prelude.{◌≡◌, ◌≤◌, ◌<◌, ◌+◌, ◌-◌, ◌∷◌, ◌++◌, ◌==◌, ◌↔◌, [], IsTrue, List, ℕ, Some, IfSome, IfOk, IfErr, IsSomeAnd, MatchResult, length, not, drop};
 ghost use Rattle.std.specs.Str.{is_utf8, byte};
 ghost use Rattle.columns.specs.Word.{Ends};
 ghost use Rattle.columns.specs.Escapes.{AreBytes};

@@ -1,16 +1,15 @@
 //! The value of a cell, of any type.
 
-ghost use Rattle.std.specs.Prelude.{◌≡◌, ◌≤◌, ◌||◌, ℕ, List, length, Some, IfOk, IfErr, IsOk, IsTrue};
+ghost use Rattle.std.specs.Prelude.{◌≡◌, ◌≤◌, ℕ, List, length, Some, IfOk, IfErr, IsOk};
 ghost use Rattle.binlog.specs.Cell.{cell_value, bytes_cell};
-ghost use Rattle.columns.specs.DataType.{is_none, is_one_between, is_digits};
-ghost use Rattle.columns.specs.TypeText.{first_number};
-ghost use Rattle.columns.specs.TypedValues.{second_number, IsValueOf, IsIntegerOf, IsDecimalOf, IsFloatOf, IsDoubleOf, IsTextWithin, AreBytesWithin, IsCellFault};
+ghost use Rattle.columns.specs.Shapes.{IsShape};
+ghost use Rattle.columns.specs.TypedValues.{IsValueOf, IsOfShape, IsIntegerOf, IsDecimalOf, IsFloatOf, IsDoubleOf, IsTextWithin, AreBytesWithin, IsCellFault, IsShapeFault};
 ghost use Rattle.columns.specs.Cells.{number_fault, bytes_fault, within_fault};
 ghost use Rattle.columns.specs.Integers.{byte_count};
 ghost use Rattle.columns.specs.Decimals.{decimal_size};
 
-use crate::arguments::Arguments;
 use crate::data_type::DataType;
+use crate::shape::Shape;
 use crate::sign::Sign;
 use crate::type_name::TypeName;
 use crate::value::bit::read_bits;
@@ -57,45 +56,7 @@ impl<'a> TypedValue<'a> {
             (cell_value cell.entry) → IsOk result }
         ensures fault { IfErr result (IsCellFault kind.name kind.numbers (cell_value cell.entry)) }
     {
-        match kind.name {
-            TypeName::Tinyint => read_integer(IntegerWidth::One, kind.sign, cell),
-            TypeName::Smallint => read_integer(IntegerWidth::Two, kind.sign, cell),
-            TypeName::Mediumint => read_integer(IntegerWidth::Three, kind.sign, cell),
-            TypeName::Int => read_integer(IntegerWidth::Four, kind.sign, cell),
-            TypeName::Bigint => read_integer(IntegerWidth::Eight, kind.sign, cell),
-            TypeName::Decimal => read_decimal(kind.numbers, cell),
-            TypeName::Float => read_float_cell(cell),
-            TypeName::Double => read_double_cell(cell),
-            TypeName::Bit => Ok(TypedValue::Bits(read_bits(bits_of(kind.numbers), cell)?)),
-            TypeName::Year => Ok(TypedValue::Year(Year::read(cell)?)),
-            TypeName::Date => Ok(TypedValue::Date(Date::read(cell)?)),
-            TypeName::Time => Ok(TypedValue::Time(Time::read(digits_of(kind.numbers), cell)?)),
-            TypeName::Datetime => Ok(TypedValue::Datetime(Datetime::read(
-                digits_of(kind.numbers),
-                cell,
-            )?)),
-            TypeName::Timestamp => Ok(TypedValue::Timestamp(Timestamp::read(
-                digits_of(kind.numbers),
-                cell,
-            )?)),
-            TypeName::Char | TypeName::Varchar => read_text(
-                4 * kind.numbers.first() as usize,
-                cell,
-            ),
-            TypeName::Tinytext => read_text(0xff, cell),
-            TypeName::Text => read_text(0xffff, cell),
-            TypeName::Mediumtext => read_text(0xff_ffff, cell),
-            TypeName::Longtext => read_text(0xffff_ffff, cell),
-            TypeName::Binary | TypeName::Varbinary => read_bytes(
-                kind.numbers.first() as usize,
-                cell,
-            ),
-            TypeName::Tinyblob => read_bytes(0xff, cell),
-            TypeName::Blob => read_bytes(0xffff, cell),
-            TypeName::Mediumblob => read_bytes(0xff_ffff, cell),
-            TypeName::Longblob => read_bytes(0xffff_ffff, cell),
-            _ => Err(CellFault::Kind),
-        }
+        read_of_shape(kind.shape(), kind.sign, cell)
     }
 }
 
@@ -114,28 +75,28 @@ impl DataType {
     }
 }
 
-/// The first number of a type with digits after the point of a second, and 0 where it has none.
-pub(crate) fn digits_of(numbers: Arguments) -> u8
-    requires { IsTrue (is_none numbers || is_one_between 1 6 numbers) }
-    ensures number { result ≡ first_number numbers }
-    ensures few { result ≤ 6 }
+/// The value that a cell stands for in a column of this shape.
+fn read_of_shape<'a>(shape: Shape, sign: Sign, cell: Cell<'a>) -> Result<TypedValue<'a>, CellFault>
+    requires { IsShape shape }
+    ensures found { IfOk result (λ value. IsOfShape shape sign value (cell_value cell.entry)) }
+    ensures only { (value : TypedValue) → IsOfShape shape sign value (cell_value cell.entry)
+        → IsOk result }
+    ensures fault { IfErr result (IsShapeFault shape (cell_value cell.entry)) }
 {
-    match numbers {
-        Arguments::OneNumber(digits) => digits as u8,
-        _ => 0,
-    }
-}
-
-/// The number of bits of a BIT.
-pub(crate) fn bits_of(numbers: Arguments) -> u8
-    requires { IsTrue (is_one_between 1 64 numbers) }
-    ensures number { result ≡ first_number numbers }
-    ensures some { 1 ≤ result }
-    ensures few { result ≤ 64 }
-{
-    match numbers {
-        Arguments::OneNumber(bits) => bits as u8,
-        _ => unreachable!(),
+    match shape {
+        Shape::Integer(width) => read_integer(width, sign, cell),
+        Shape::Decimal { precision, scale } => read_decimal(precision, scale, cell),
+        Shape::Float => read_float_cell(cell),
+        Shape::Double => read_double_cell(cell),
+        Shape::Bits(bits) => Ok(TypedValue::Bits(read_bits(bits, cell)?)),
+        Shape::Year => Ok(TypedValue::Year(Year::read(cell)?)),
+        Shape::Date => Ok(TypedValue::Date(Date::read(cell)?)),
+        Shape::Time(digits) => Ok(TypedValue::Time(Time::read(digits, cell)?)),
+        Shape::Datetime(digits) => Ok(TypedValue::Datetime(Datetime::read(digits, cell)?)),
+        Shape::Timestamp(digits) => Ok(TypedValue::Timestamp(Timestamp::read(digits, cell)?)),
+        Shape::Text(most) => read_text(most, cell),
+        Shape::Bytes(most) => read_bytes(most, cell),
+        Shape::Other => Err(CellFault::Kind),
     }
 }
 
@@ -155,20 +116,19 @@ fn read_integer<'a>(
 }
 
 /// The value of a decimal's cell.
-fn read_decimal<'a>(numbers: Arguments, cell: Cell<'a>) -> Result<TypedValue<'a>, CellFault>
-    requires { IsTrue (is_digits 65 numbers) }
-    ensures found { IfOk result (λ value. IsDecimalOf (first_number numbers)
-        (second_number numbers) value (cell_value cell.entry)) }
-    ensures only { (value : TypedValue) → IsDecimalOf (first_number numbers)
-        (second_number numbers) value (cell_value cell.entry) → IsOk result }
-    ensures fault { IfErr result (λ fault. fault
-        ≡ bytes_fault (decimal_size (first_number numbers) (second_number numbers))
+fn read_decimal<'a>(precision: u8, scale: u8, cell: Cell<'a>) -> Result<TypedValue<'a>, CellFault>
+    requires some { 1 ≤ precision }
+    requires few { precision ≤ 65 }
+    requires within { scale ≤ precision }
+    requires short { scale ≤ 30 }
+    ensures found { IfOk result (λ value. IsDecimalOf precision scale value
+        (cell_value cell.entry)) }
+    ensures only { (value : TypedValue) → IsDecimalOf precision scale value (cell_value cell.entry)
+        → IsOk result }
+    ensures fault { IfErr result (λ fault. fault ≡ bytes_fault (decimal_size precision scale)
         (cell_value cell.entry)) }
 {
-    let Arguments::TwoNumbers(precision, scale) = numbers else {
-        unreachable!();
-    };
-    Ok(TypedValue::Decimal(Decimal::read(precision as u8, scale as u8, cell)?))
+    Ok(TypedValue::Decimal(Decimal::read(precision, scale, cell)?))
 }
 
 /// The value of a FLOAT's cell.

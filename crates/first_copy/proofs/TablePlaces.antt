@@ -1,5 +1,5 @@
 -- The table whose names stand at the front of a line.
-use Rattle.first_copy.proofs.Names.{◌≡◌, ◌≢◌, ℕ, suc, ◌+◌, ◌<◌, ◌≤◌, Bool, true, false, List, [], ◌∷◌, ◌++◌, length, Some, slice_get, get_or, inl, inr, refl, ap, sym, subst, ◌∙◌, arith, append_assoc, bytes_eq, slice_get_read, DescribedTable, IsRowFault, RowFault, Column, AreFields, CellValue}
+use Rattle.first_copy.proofs.Names.{◌≡◌, ◌≢◌, ℕ, suc, ◌+◌, ◌<◌, ◌≤◌, Bool, true, false, List, [], ◌∷◌, ◌++◌, length, Some, slice_get, get_or, inl, inr, refl, ap, sym, subst, ◌∙◌, arith, bytes_eq, slice_get_read, DescribedTable, IsRowFault, RowFault, Column, AreFields, CellValue}
 use Rattle.std.proofs.Common.{zero, ◌==◌, eq-eqb}
 use Rattle.std.specs.List.{AllByRecursion, IsDistinct}
 use Rattle.std.specs.Cmp.Lexicographic.{other_text}

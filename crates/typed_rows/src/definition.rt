@@ -1,6 +1,8 @@
 //! The statements that make a table of SQLite, and add a row to it.
 
-use columns::{CharacterSet, Column, ColumnType, DataType, DescribedTable, Key, Sign, TypeName};
+use columns::{
+    CharacterSet, Column, ColumnType, DataType, DescribedTable, IntegerWidth, Key, Shape, Sign,
+};
 use std::alloc::{AllocError, Global};
 
 const INTEGER: &str = "INTEGER";
@@ -13,7 +15,7 @@ const BLOB: &str = "BLOB";
 const ANY: &str = "ANY";
 
 /// How many bits an integer of SQLite has beside its sign.
-const MOST_BITS: u32 = 63;
+const MOST_BITS: u8 = 63;
 
 /// The type of a column in SQLite.
 fn type_of(column: &Column) -> &'static str {
@@ -29,32 +31,18 @@ fn type_of(column: &Column) -> &'static str {
 /// FLOAT and DOUBLE are ANY, since a REAL column makes -0.0 an integer, 0; and so are integers that SQLite's may not hold, and
 /// types whose cells are never shown.
 fn type_of_scalar(kind: DataType, column: &Column) -> &'static str {
-    match kind.name {
-        TypeName::Tinyint
-        | TypeName::Smallint
-        | TypeName::Mediumint
-        | TypeName::Int
-        | TypeName::Year => INTEGER,
-        TypeName::Bigint if kind.sign == Sign::Signed => INTEGER,
-        TypeName::Bit if kind.numbers.first() <= MOST_BITS => INTEGER,
-        TypeName::Decimal
-        | TypeName::Date
-        | TypeName::Time
-        | TypeName::Datetime
-        | TypeName::Timestamp => TEXT,
-        TypeName::Char
-        | TypeName::Varchar
-        | TypeName::Tinytext
-        | TypeName::Text
-        | TypeName::Mediumtext
-        | TypeName::Longtext => type_of_text(column),
-        TypeName::Binary
-        | TypeName::Varbinary
-        | TypeName::Tinyblob
-        | TypeName::Blob
-        | TypeName::Mediumblob
-        | TypeName::Longblob => BLOB,
-        _ => ANY,
+    match kind.shape() {
+        Shape::Integer(IntegerWidth::Eight) if kind.sign != Sign::Signed => ANY,
+        Shape::Integer(_) | Shape::Year => INTEGER,
+        Shape::Bits(bits) if bits <= MOST_BITS => INTEGER,
+        Shape::Decimal { .. }
+        | Shape::Date
+        | Shape::Time(_)
+        | Shape::Datetime(_)
+        | Shape::Timestamp(_) => TEXT,
+        Shape::Text(_) => type_of_text(column),
+        Shape::Bytes(_) => BLOB,
+        Shape::Bits(_) | Shape::Float | Shape::Double | Shape::Other => ANY,
     }
 }
 

@@ -3,7 +3,7 @@
 use crate::described_tables::DescribedTables;
 use crate::query::write_text;
 use crate::sql::write_name;
-use columns::{Column, ColumnType, DataType, DescribedTable, TypeName};
+use columns::{Column, ColumnType, DataType, DescribedTable, Shape};
 use std::io;
 use std::io::Write;
 
@@ -39,33 +39,18 @@ fn expression(kind: &ColumnType) -> Option<Around> {
 
 /// The same of a type without members.
 fn expression_of(kind: DataType) -> Option<Around> {
-    match kind.name {
-        TypeName::Tinyint
-        | TypeName::Smallint
-        | TypeName::Mediumint
-        | TypeName::Int
-        | TypeName::Bigint
-        | TypeName::Decimal
-        | TypeName::Year
-        | TypeName::Date
-        | TypeName::Time
-        | TypeName::Datetime
-        | TypeName::Timestamp => Some(AS_IT_IS),
-        TypeName::Float | TypeName::Double => Some(("CAST(", " AS DOUBLE)")),
-        TypeName::Bit => Some(AS_NUMBER),
-        TypeName::Char
-        | TypeName::Varchar
-        | TypeName::Binary
-        | TypeName::Varbinary
-        | TypeName::Tinytext
-        | TypeName::Text
-        | TypeName::Mediumtext
-        | TypeName::Longtext
-        | TypeName::Tinyblob
-        | TypeName::Blob
-        | TypeName::Mediumblob
-        | TypeName::Longblob => Some(AS_DIGITS),
-        _ => None,
+    match kind.shape() {
+        Shape::Integer(_)
+        | Shape::Decimal { .. }
+        | Shape::Year
+        | Shape::Date
+        | Shape::Time(_)
+        | Shape::Datetime(_)
+        | Shape::Timestamp(_) => Some(AS_IT_IS),
+        Shape::Float | Shape::Double => Some(("CAST(", " AS DOUBLE)")),
+        Shape::Bits(_) => Some(AS_NUMBER),
+        Shape::Text(_) | Shape::Bytes(_) => Some(AS_DIGITS),
+        Shape::Other => None,
     }
 }
 

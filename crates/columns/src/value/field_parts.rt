@@ -1,6 +1,6 @@
 //! The parts of dates and times in the fields of lines.
 
-ghost use Rattle.std.specs.Prelude.{◌≡◌, ◌≤◌, ◌<◌, ◌^◌, ◌∷◌, ◌++◌, ℕ, List, IfSome, IfNone, IsSomeAnd, IsTrue};
+ghost use Rattle.std.specs.Prelude.{◌≡◌, ◌≤◌, ◌<◌, ◌^◌, ◌∷◌, ◌++◌, ℕ, List, IfSome, IsSomeAnd, IsTrue};
 ghost use Rattle.columns.specs.Dates.{date_text};
 ghost use Rattle.columns.specs.Text.{zero_padded};
 ghost use Rattle.std.specs.Str.{byte};
