@@ -71,7 +71,6 @@ def refusal(said: str, name: str, function: str) -> Optional[str]:
     if goals:
         return f"no proof of {goals[1]}"
     place = re.escape("proofs/" + function.replace("::", "/"))
-    # That a record has no such field is said on a line of its own.
-    errors = re.findall(rf"^(?:\./)?({place}/\S+: error: .*(?:\n  has no field)?)", said, re.M)
-    errors = [it for it in errors if not NAMES.search(it)]
-    return errors[0] if errors else None
+    # What a record or a module lacks may stand on the next line.
+    errors = re.findall(rf"^(?:\./)?({place}/\S+: error: .*(?:\n  .*)?)", said, re.M)
+    return next((it.split("\n")[0] for it in errors if not NAMES.search(it)), None)
