@@ -1,7 +1,7 @@
 //! The files in which `mrep copy` makes a copy, TO.part and TO.part-wal, until it has its name.
 
 use crate::fault::FileFault;
-use crate::names::{EXISTS, Names};
+use crate::names::{EXISTS, FileNames};
 use crate::part_file::{Claim, Leftover, begin, give_name, remove};
 use crate::sqlite_file::may_be_left;
 use crate::what_is_named::{folder_of, private};
@@ -28,21 +28,21 @@ impl Leftover for LeftCopy {
 
 /// The files of a copy that is being made, which no other process has then.
 #[derive(Drop)]
-pub struct Part {
-    pub names: Names,
+pub struct CopyPart {
+    pub names: FileNames,
     /// The database file, which is open and locked.
     pub file: File,
 }
 
 /// Makes TO.part, empty, for a copy of a database to the name TO, and removes a TO.part-wal. A TO.part that is there is made
 /// anew if it is what a killed process has left of a copy. Neither name may lead to the database.
-pub fn make_part(rt: &HostRuntime, from: &Names, to: &str) -> Result<Part, FileFault> {
-    let names = Names::beside(rt.alloc(), format!(in rt.alloc(); "{to}.part")?)?;
+pub fn make_part(rt: &HostRuntime, from: &FileNames, to: &str) -> Result<CopyPart, FileFault> {
+    let names = FileNames::beside(rt.alloc(), format!(in rt.alloc(); "{to}.part")?)?;
     from.check_part(rt, names.file.as_str())?;
     from.check_part(rt, names.wal.as_str())?;
     match begin::<LeftCopy>(rt, names.file.as_str())? {
         Claim::Made(file) => {
-            let part = Part { names, file };
+            let part = CopyPart { names, file };
             part.remove_wal(rt)?;
             Ok(part)
         }
@@ -51,7 +51,7 @@ pub fn make_part(rt: &HostRuntime, from: &Names, to: &str) -> Result<Part, FileF
     }
 }
 
-impl Part {
+impl CopyPart {
     /// Removes TO.part-wal, whatever has that name.
     pub fn remove_wal(&self, rt: &HostRuntime) -> io::Result<()> {
         remove(rt, self.names.wal.as_str())

@@ -9,8 +9,8 @@
 ghost use Rattle.std.specs.Prelude.{Option, None, IfOk, MatchBool};
 ghost use Rattle.files.specs.Copying.{CopyAccount, InCall, ReadsHeader, CopiesFile, RemovesLog, CopiesLog, MissesLog, CopiesBoth, MeetsOtherHeader};
 
-use crate::copy_part::Part;
-use crate::names::{Names, WAL_HEADER, header};
+use crate::copy_part::CopyPart;
+use crate::names::{FileNames, WAL_HEADER, header};
 use std::fs::File;
 use std::io::{ErrorKind, Seek, SeekFrom};
 use std::{fs, io};
@@ -49,8 +49,8 @@ trait FilesInUse {
 #[derive(Drop)]
 struct NamedFiles<'a> {
     rt: &'a HostRuntime,
-    from: &'a Names,
-    part: &'a Part,
+    from: &'a FileNames,
+    part: &'a CopyPart,
 }
 
 impl FilesInUse for NamedFiles<'_> {
@@ -83,9 +83,9 @@ impl FilesInUse for NamedFiles<'_> {
     }
 }
 
-impl Part {
+impl CopyPart {
     /// Copies the two files of a database until they fit each other. Whether they do at last.
-    pub fn fill(&self, rt: &HostRuntime, from: &Names) -> io::Result<bool> {
+    pub fn fill(&self, rt: &HostRuntime, from: &FileNames) -> io::Result<bool> {
         copy_fitting(&mut NamedFiles {
             rt,
             from,

@@ -2,7 +2,7 @@
 //! feed, of streams and of a password.
 //!
 //! [`Opening`] is what stands before a database file is opened: the lock of its name, and the file itself, made with its
-//! first page where there was none. [`Names`] and [`Part`] copy a database that others may be writing, [`FeedFile`] is
+//! first page where there was none. [`FileNames`] and [`CopyPart`] copy a database that others may be writing, [`FeedFile`] is
 //! a file to whose end the lines of a change feed are written, [`Input`] is what a stream is read from, and [`KeptInput`]
 //! keeps standard input, so that it can be read twice.
 //!
@@ -30,14 +30,14 @@ mod sqlite_file;
 mod unsupported;
 mod what_is_named;
 
-pub use copy_part::{Part, make_part};
+pub use copy_part::{CopyPart, make_part};
 pub use fault::FileFault;
 pub use feed_file::FeedFile;
 pub use found::Found;
 pub use input::{INPUT, Input};
 pub use kept_input::KeptInput;
 pub use name_lock::{LOCKED, NameLock, keep_one_name, lock_alone};
-pub use names::Names;
+pub use names::FileNames;
 pub use opening::{Opening, missing_wal, opening_fault, remove_unused};
 pub use owner::{Owner, owner_of};
 pub use password_file::{others_may_read, read_password};

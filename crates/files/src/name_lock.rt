@@ -38,9 +38,9 @@ pub(crate) fn lock_shared(rt: &HostRuntime, name: &str) -> Result<NameLock, File
     let part = format!(in rt.alloc(); "{name}.new")?;
     for _ in 0..TRIES {
         let lock = match open_or_make(rt, name, part.as_str()) {
-            Found::File(lock) => lock,
-            Found::InUse => return Err(FileFault::Unusable(LOCKED)),
-            Found::No => break,
+            NameFile::File(lock) => lock,
+            NameFile::InUse => return Err(FileFault::Unusable(LOCKED)),
+            NameFile::No => break,
         };
         let Some(file) = &lock.file else {
             break;
@@ -112,7 +112,7 @@ pub fn keep_one_name(rt: &HostRuntime, name: &str) -> Result<(), AllocError> {
 }
 
 /// What was found under a name, or made.
-enum Found {
+enum NameFile {
     File(NameLock),
     /// Another process is making the file.
     InUse,
@@ -121,31 +121,31 @@ enum Found {
 }
 
 /// Opens the file of a name, or makes it.
-fn open_or_make(rt: &HostRuntime, name: &str, part: &str) -> Found {
+fn open_or_make(rt: &HostRuntime, name: &str, part: &str) -> NameFile {
     if is_special(name) {
-        return Found::No;
+        return NameFile::No;
     }
     match fs::metadata(rt, name) {
-        Ok(metadata) if !metadata.is_file() => return Found::No,
+        Ok(metadata) if !metadata.is_file() => return NameFile::No,
         Ok(_) => {}
-        Err(cause) if cause.kind() != ErrorKind::NotFound => return Found::No,
+        Err(cause) if cause.kind() != ErrorKind::NotFound => return NameFile::No,
         Err(_) => match make_file(rt, name, part) {
             Made::File(file) => {
-                return Found::File(NameLock {
+                return NameFile::File(NameLock {
                     file: Some(file),
                     is_new: true,
                 });
             }
-            Made::InUse => return Found::InUse,
+            Made::InUse => return NameFile::InUse,
             Made::Taken => {}
         },
     }
     match fs::open(rt, name) {
-        Ok(file) => Found::File(NameLock {
+        Ok(file) => NameFile::File(NameLock {
             file: Some(file),
             is_new: false,
         }),
-        Err(_) => Found::No,
+        Err(_) => NameFile::No,
     }
 }
 

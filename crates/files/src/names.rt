@@ -28,23 +28,23 @@ const NO_FILE_BESIDE: &str =
 
 /// The names of a database file and of its WAL file.
 #[derive(Drop)]
-pub struct Names {
+pub struct FileNames {
     pub file: String,
     pub wal: String,
 }
 
-impl Names {
+impl FileNames {
     /// The files of the database that this name leads to.
-    pub fn of(rt: &HostRuntime, name: &str) -> Result<Names, FileFault> {
+    pub fn of(rt: &HostRuntime, name: &str) -> Result<FileNames, FileFault> {
         let path = fs::canonicalize(rt, name)?;
         let file = String::from_str(rt.alloc(), path.as_str())?;
-        Ok(Names::beside(rt.alloc(), file)?)
+        Ok(FileNames::beside(rt.alloc(), file)?)
     }
 
     /// The database file of this name, and its WAL file, which has the same name with `-wal` at the end.
-    pub fn beside(alloc: Global, file: String) -> Result<Names, AllocError> {
+    pub fn beside(alloc: Global, file: String) -> Result<FileNames, AllocError> {
         let wal = format!(in alloc; "{file}-wal")?;
-        Ok(Names { file, wal })
+        Ok(FileNames { file, wal })
     }
 
     /// Whether both files can be read.
@@ -82,7 +82,7 @@ fn judge(judged: io::Result<Option<&'static str>>) -> Result<(), FileFault> {
 }
 
 /// Why a file may not be copied as a database, if it may not.
-fn fault_of(rt: &HostRuntime, from: &Names) -> io::Result<Option<&'static str>> {
+fn fault_of(rt: &HostRuntime, from: &FileNames) -> io::Result<Option<&'static str>> {
     if !fs::metadata(rt, from.file.as_str())?.is_file() {
         return Ok(Some(NO_FILE));
     }
@@ -98,7 +98,7 @@ fn fault_of(rt: &HostRuntime, from: &Names) -> io::Result<Option<&'static str>> 
 /// Why a file may not be made or replaced, if it may not. What lies beside its name would be read with the copy.
 fn refusal_of(
     rt: &HostRuntime,
-    from: &Names,
+    from: &FileNames,
     to: &str,
     force: bool,
 ) -> io::Result<Option<&'static str>> {
@@ -148,7 +148,7 @@ fn has_no_file_beside(rt: &HostRuntime, file: &str) -> io::Result<bool> {
 }
 
 /// Whether a name leads to a database file or to its WAL file.
-fn is_one_of(rt: &HostRuntime, name: &str, names: &Names) -> io::Result<bool> {
+fn is_one_of(rt: &HostRuntime, name: &str, names: &FileNames) -> io::Result<bool> {
     match fs::canonicalize(rt, name) {
         Ok(path) => Ok(path.as_str() == names.file.as_str() || path.as_str() == names.wal.as_str()),
         Err(cause) if cause.kind() == ErrorKind::NotFound => Ok(false),

@@ -8,7 +8,7 @@ use Rattle.gather.specs.View.{delivery_value}
 use Rattle.gather.specs.declared.transaction.Delivery.{Delivery}
 use Rattle.gather.specs.Transaction.{ChangeValue}
 use Rattle.binlog.specs.Filter.{Names}
-use Rattle.replica.specs.Given.{Supply, BeginWith, GivesFirst, GivesOne}
+use Rattle.gather.specs.Given.{Supply, BeginWith, GivesFirst, GivesOne}
 use Rattle.first_copy.specs.Supplied.{all_changes, AreOfTables, within, HaveLines, supply_of}
 
 -- ---- The tables of what is given.

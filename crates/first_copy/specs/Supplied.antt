@@ -5,7 +5,7 @@ use Rattle.std.specs.List.{AllByRecursion}
 use Rattle.binlog.specs.Filter.{Names}
 use Rattle.columns.specs.declared.table.DescribedTable.{DescribedTable}
 use Rattle.gather.specs.Transaction.{ChangeValue, DeliveryValue, changed_schema, changed_table}
-use Rattle.replica.specs.Given.{Supply}
+use Rattle.gather.specs.Given.{Supply}
 use Rattle.first_copy.specs.CopyLines.{IsEndLine, BeginsWithEnd, IsChunk}
 
 -- the changes of all transactions, in order

@@ -8,8 +8,7 @@ ghost use Rattle.first_copy.specs.Supplied.{AreOfTables, within, supply_of};
 use crate::copy_fault::CopyFault;
 use crate::loader::Loader;
 use binlog::Follow;
-use gather::{Changes, Delivery};
-use replica::Deliveries;
+use gather::{Changes, Deliveries, Delivery};
 use std::io::BufRead;
 
 /// Why the transactions of a copy do not come.

@@ -11,7 +11,7 @@ ghost use Rattle.store.specs.State.{Content, TableRow};
 ghost use Rattle.store.specs.Changes.{adopted};
 ghost use Rattle.replica.specs.Conn.{AppliesAll};
 ghost use Rattle.replica.specs.Copies.{AreAdmitted, end_of_copy};
-ghost use Rattle.replica.specs.Given.{then_last};
+ghost use Rattle.gather.specs.Given.{then_last};
 ghost use Rattle.replica.specs.Copied.{AreAdded, NoneExecuted, with_all};
 ghost use Rattle.first_copy.specs.CopyLines.{IsEndLine};
 ghost use Rattle.first_copy.specs.LoadedText.{HasLinesOf};

@@ -1,2 +1,2 @@
-pub mod RowText
+pub mod NameText
 pub mod TypeText

@@ -2,7 +2,7 @@
 
 ghost use Rattle.std.specs.Prelude.{◌≡◌, ◌<◌, OnOk, flat_map};
 ghost use Rattle.std.specs.Io.KnownBytes.{Appends};
-ghost use Rattle.formats.specs.RowText.{hex_digit, byte_text};
+ghost use Rattle.formats.specs.NameText.{hex_digit, byte_text};
 
 use std::io;
 use std::io::Write;

@@ -3,7 +3,7 @@
 
 ghost use Rattle.std.specs.Prelude.{OnOk, flat_map};
 ghost use Rattle.std.specs.Io.KnownBytes.{Appends};
-ghost use Rattle.formats.specs.RowText.{name_byte, qualified_text};
+ghost use Rattle.formats.specs.NameText.{name_byte, qualified_text};
 
 use crate::hex::{byte_of, digits_of};
 use std::alloc::{AllocError, Global};
@@ -48,7 +48,7 @@ fn write_name_byte<W: Write>(byte: u8, out: &mut W) -> io::Result<()>
 }
 
 /// Writes a name: digits, letters, `_` and `$` as they are, every other byte as `%` and two hexadecimal digits.
-pub(crate) fn write_name<W: Write>(name: &[u8], out: &mut W) -> io::Result<()>
+pub fn write_name<W: Write>(name: &[u8], out: &mut W) -> io::Result<()>
     ensures { OnOk result (Appends (W.contents out.old) (W.contents out.new)
         (flat_map name_byte name.now)) }
 {

@@ -12,3 +12,4 @@ pub mod OneMoreEvent
 pub mod ShorterLists
 pub mod OneList
 pub mod NextEvents
+pub mod ListedOnes

@@ -7,3 +7,4 @@ pub mod View
 pub mod OpenTransaction
 pub mod State
 pub mod Standing
+pub mod Given

@@ -11,18 +11,18 @@ use Rattle.command_line.specs.declared.arguments.ArgumentFault.{ArgumentFault}
 use Rattle.command_line.specs.declared.arguments.ArgumentFault.TheVariants as argument
 use Rattle.columns.specs.declared.fields.LineFault.{LineFault}
 use Rattle.columns.specs.declared.fields.LineFault.TheVariants.{Memory as OutOfMemory}
-use Rattle.typed_rows.specs.declared.tables.TablesFault.{TablesFault}
-use Rattle.typed_rows.specs.declared.tables.TablesFault.TheVariants as tables
+use Rattle.export.specs.declared.tables.TablesFault.{TablesFault}
+use Rattle.export.specs.declared.tables.TablesFault.TheVariants as tables
 use Rattle.gtid.specs.declared.fault.GtidFault.TheVariants as gtids
 use Rattle.first_copy.specs.declared.copy_fault.CopyFault.{CopyFault}
 use Rattle.first_copy.specs.declared.copy_fault.CopyFault.TheVariants as copy
-use Rattle.replica.specs.declared.loading.Unloadable.{Unloadable as Refusal}
-use Rattle.replica.specs.declared.loading.Unloadable.TheVariants.{Failed}
+use Rattle.replica.specs.declared.change.loading.Unloadable.{Unloadable as Refusal}
+use Rattle.replica.specs.declared.change.loading.Unloadable.TheVariants.{Failed}
 use Rattle.store.specs.declared.fault.StoreFault.{StoreFault}
 use Rattle.store.specs.declared.fault.StoreFault.TheVariants as store
 use Rattle.mrep.specs.declared.report.failure.Failure.TheVariants.{Memory, Output, Told}
-use Rattle.mrep.specs.declared.report.failure.Kind.{Kind}
-use Rattle.mrep.specs.declared.report.failure.Kind.TheVariants as kinds
+use Rattle.mrep.specs.declared.report.failure.FailureKind.{FailureKind}
+use Rattle.mrep.specs.declared.report.failure.FailureKind.TheVariants as kinds
 
 -- 4 if memory ran out, otherwise 3
 abbrev pub IsFileStatus : Error → ℕ → Type 0
@@ -72,7 +72,7 @@ IsWordsStatus error status = (kind_of error ≡ clap_kind.OutOfMemory → status
 
 -- 2 for a mistake in the arguments, such as a text that is not a set or a user name, and for a file that is no description or of which no tables are made; 1 for a file that is no
 -- copy, for a copy that may not be loaded, and for a row that does not fit the description; 3 for a file, a host or the database; 4 if memory ran out
-abbrev pub kind_status : Kind → ℕ
+abbrev pub kind_status : FailureKind → ℕ
 kind_status kinds.Usage = 2
 kind_status kinds.Refused = 1
 kind_status kinds.Misfit = 1
@@ -86,7 +86,7 @@ IsStatus (Output cause) status = IsFileStatus cause status
 IsStatus (Told kind message) status = status ≡ kind_status kind
 
 -- it is of this kind, unless memory ran out for its message
-abbrev pub IsTold : Kind → Failure → Type 0
+abbrev pub IsTold : FailureKind → Failure → Type 0
 IsTold kind Memory = ⊤
 IsTold kind (Output cause) = ⊥
 IsTold kind (Told its message) = its ≡ kind

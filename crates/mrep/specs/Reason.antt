@@ -1,11 +1,11 @@
 -- The exit statuses of connections.
 use Rattle.std.specs.Prelude.{ℕ, ◌≡◌, ◌==◌, ◌⊎◌, if◌then◌else◌, List, [], ◌∷◌, ◌++◌, Result, Err}
-use Rattle.replica.specs.declared.end.Reason.{Reason}
-use Rattle.replica.specs.declared.end.Reason.TheVariants.{EndOfInput, SourceEof, SourceError, Wire, Greet, Event, Gather, Refused, Database, Memory, ReadFailed, WriteFailed, Halted, Until}
-use Rattle.replica.specs.declared.end.Ended.{Ended}
+use Rattle.replica.specs.declared.session.end.Reason.{Reason}
+use Rattle.replica.specs.declared.session.end.Reason.TheVariants.{EndOfInput, SourceEof, SourceError, Wire, Greet, Event, Gather, Refused, Database, Memory, ReadFailed, WriteFailed, Halted, Until}
+use Rattle.replica.specs.declared.session.end.Ended.{Ended}
 use Rattle.mrep.specs.declared.report.failure.Failure.{Failure}
 use Rattle.mrep.specs.declared.report.failure.Failure.TheVariants as failure
-use Rattle.mrep.specs.declared.report.failure.Kind.TheVariants as kinds
+use Rattle.mrep.specs.declared.report.failure.FailureKind.TheVariants as kinds
 
 -- 0 if the input or the source's log has ended, or all that is waited for is executed, 1 for a refusal by the source or because of what its data says, 3 for a
 -- file, a socket, the database or the change feed, 4 if memory ran out

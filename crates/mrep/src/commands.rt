@@ -6,7 +6,7 @@ pub mod abandon;
 pub mod account;
 pub mod clear;
 pub mod copy;
-pub mod export;
+pub mod export_command;
 pub mod follow;
 pub mod listing;
 pub mod load;
@@ -21,7 +21,7 @@ pub mod verify;
 use crate::commands::abandon::abandon;
 use crate::commands::clear::clear;
 use crate::commands::copy::copy;
-use crate::commands::export::export;
+use crate::commands::export_command::export;
 use crate::commands::follow::follow;
 use crate::commands::listing::list;
 use crate::commands::load::load;
@@ -32,6 +32,7 @@ use crate::commands::sets::{adopt, gtids, missing};
 use crate::commands::show::{info, show, tables};
 use crate::commands::skip::skip;
 use crate::commands::verify::verify;
+use crate::payloads::lines::Lines;
 use crate::report::failure::{DONE, Failure, MEMORY, of_words, over_argument, write_failure};
 use clap::{ArgMatches, Command};
 use command_line::{
@@ -39,12 +40,11 @@ use command_line::{
     write_completions, write_help,
 };
 use files::{Found, INPUT};
-use formats::{note_absent, note_patterns};
-use payloads::Lines;
+use first_copy::write_query;
+use rows::{note_absent, note_patterns};
 use std::alloc::{AllocError, Global};
 use std::convert::AsStr;
 use std::io::{ErrorKind, Write};
-use typed_rows::write_query;
 
 /// Runs the command that the arguments name; the first argument is the program's own name. Returns the exit status: 0
 /// done, 1 refused by the source or because of what the data says, 2 a mistake in the arguments, 3 a file, a socket,

@@ -7,6 +7,7 @@
 mod commands;
 mod database;
 mod forge;
+mod payloads;
 mod report;
 mod stack_room;
 

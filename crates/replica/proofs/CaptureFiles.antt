@@ -9,8 +9,8 @@ use Rattle.store.specs.Apply.{IsAtRest}
 use Rattle.store.specs.Store.{Holds, Keeps}
 use Rattle.store.specs.Entering.{IsWanted}
 use Rattle.store.proofs.CrashOpenings.{left_by}
-use Rattle.replica.specs.declared.captures.Halt.{Halt}
-use Rattle.replica.specs.declared.counted.Counted.{Counted}
+use Rattle.replica.specs.declared.source.captures.Halt.{Halt}
+use Rattle.replica.specs.declared.source.counted.Counted.{Counted}
 use Rattle.replica.specs.Crash as crash
 use Rattle.replica.proofs.InOrder.{whole_leaves}
 use Rattle.replica.specs.Capture.{Reads}

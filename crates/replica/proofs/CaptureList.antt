@@ -3,8 +3,8 @@ use Rattle.replica.proofs.Names.{◌≡◌, ℕ, Bool, true, List, [], ◌∷◌
 use Rattle.std.specs.Prelude.{option_to_list}
 use Rattle.std.specs.Io.KnownBytes.{IsAtEnd}
 use Rattle.sqlite.specs.Held.{state}
-use Rattle.replica.specs.declared.captures.Halt.{Halt}
-use Rattle.replica.specs.declared.captures.Halt.TheVariants.{Reader, Observer}
+use Rattle.replica.specs.declared.source.captures.Halt.{Halt}
+use Rattle.replica.specs.declared.source.captures.Halt.TheVariants.{Reader, Observer}
 use Rattle.replica.specs.Over.{HasRead, HasReadOf}
 use Rattle.replica.specs.Capture.{IsReadAs, AreReadAs, HasReadOne, HasBrokenOff, AreReadUpTo, Reads}
 use Rattle.replica.proofs.Runs.{read_none, none_read, more_read}

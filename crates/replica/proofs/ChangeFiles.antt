@@ -4,8 +4,8 @@ use Rattle.sqlite_disk.specs.declared.Disk.{Ghosts}
 use Rattle.sqlite_trees.specs.declared.store.Store.{Ghosts as StoreGhosts}
 use Rattle.sqlite_store.specs.FileStore.{view}
 use Rattle.store.specs.Store.{Holds}
-use Rattle.replica.specs.declared.changing.ChangeEnd.{ChangeEnd}
-use Rattle.replica.specs.declared.changing.ChangeEnd.TheVariants.{AllGiven, NotGiven, Stopped, TooMany}
+use Rattle.replica.specs.declared.change.changing.ChangeEnd.{ChangeEnd}
+use Rattle.replica.specs.declared.change.changing.ChangeEnd.TheVariants.{AllGiven, NotGiven, Stopped, TooMany}
 use Rattle.replica.specs.Change.{IsAdopted, UnlessAdopted, IsLeftOfChange}
 use Rattle.replica.specs.ChangeFile.{ChangesFile}
 use Rattle.replica.proofs.CaptureFiles.{closed_with, may_hold}

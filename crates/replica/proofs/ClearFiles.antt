@@ -3,7 +3,7 @@ use Rattle.replica.proofs.Names.{◌≡◌, [], Result, Ok, Err, IfOk, IfErr, su
 use Rattle.sqlite_disk.specs.declared.Disk.{Ghosts}
 use Rattle.sqlite_store.specs.FileStore.{view}
 use Rattle.store.specs.Store.{Holds}
-use Rattle.replica.specs.declared.clearing.ClearEnd.{ClearEnd}
+use Rattle.replica.specs.declared.change.clearing.ClearEnd.{ClearEnd}
 use Rattle.replica.specs.NotedFile.{IsNotedOfFiles}
 use Rattle.replica.specs.Clear.{TableClear, ClearsTo, IsLeftOfClear}
 use Rattle.replica.specs.Clearing.{HasCleared, IsClearedSinceOpening}

@@ -16,10 +16,10 @@ use Rattle.store.specs.declared.fault.StoreFault.TheVariants as fault
 use Rattle.store.specs.declared.listing.ListError.TheVariants.{Store as StoreError, Visitor as VisitorError}
 use Rattle.store.specs.Apply.{IsAtRest}
 use Rattle.store.specs.Store.{Holds}
-use Rattle.replica.specs.declared.connections.NoMemory.{NoMemory}
-use Rattle.replica.specs.declared.clearing.ClearEnd.{ClearEnd}
-use Rattle.replica.specs.declared.clearing.ClearEnd.TheVariants.{Repeat, NotFollowed, OtherSet, Failed}
-use Rattle.replica.specs.declared.clearing.TableRows.{TableRows}
+use Rattle.replica.specs.declared.source.connections.NoMemory.{NoMemory}
+use Rattle.replica.specs.declared.change.clearing.ClearEnd.{ClearEnd}
+use Rattle.replica.specs.declared.change.clearing.ClearEnd.TheVariants.{Repeat, NotFollowed, OtherSet, Failed}
+use Rattle.replica.specs.declared.change.clearing.TableRows.{TableRows}
 use Rattle.replica.specs.Noted.{Excludes, opened}
 use Rattle.replica.specs.Alone.{IsOwnOrHalted}
 use Rattle.replica.specs.Copies.{HasJust}

@@ -12,10 +12,10 @@ use Rattle.binlog.specs.Filter.{name_cmp, is_named_in}
 use Rattle.binlog.proofs.TableSets.{itself, listed, follow_by}
 use Rattle.store.specs.Listing.{Accepts, HasAccepted, Hands}
 use Rattle.store.specs.declared.listing.ListError.TheVariants.{Visitor as VisitorError}
-use Rattle.replica.specs.declared.loading.NoRows.{NoRows}
-use Rattle.replica.specs.declared.loading.Found.{Found}
-use Rattle.replica.specs.declared.loading.Found.TheVariants.{Row}
-use Rattle.replica.specs.declared.loading.QualifiedName.{QualifiedName}
+use Rattle.replica.specs.declared.change.loading.NoRows.{NoRows}
+use Rattle.replica.specs.declared.change.loading.FoundRow.{FoundRow}
+use Rattle.replica.specs.declared.change.loading.FoundRow.TheVariants.{Row}
+use Rattle.replica.specs.declared.change.loading.QualifiedName.{QualifiedName}
 use Rattle.replica.specs.Loading.{IsLookedAt}
 use Rattle.replica.specs.Marks.{is_of_copy}
 use Rattle.replica.specs.Copies.{AreOfCopies, HaveNoRows}
@@ -127,11 +127,11 @@ module _ {V E : Type 0} (gives : V → Entry → Result (Unit {0}) E → V → T
       (ap tables (all_apart v last a.first a.accepted).0, subst (λ n. 1 ≤ n) at.0 at.1)
 
 -- what stopped the search is a row of one of the tables
-pub found_row : (content : Content) (v w : NoRows) (error : ListError Found) (found : Found) (name : QualifiedName) → error ≡ VisitorError found → found ≡ Row name
-    → Hands (λ (v : NoRows) (e : Entry) (r : Result (Unit {0}) Found) (w : NoRows). (w ≡ v) × IsLookedAt v.tables.now e r) content.rows v w (Err error)
+pub found_row : (content : Content) (v w : NoRows) (error : ListError FoundRow) (found : FoundRow) (name : QualifiedName) → error ≡ VisitorError found → found ≡ Row name
+    → Hands (λ (v : NoRows) (e : Entry) (r : Result (Unit {0}) FoundRow) (w : NoRows). (w ≡ v) × IsLookedAt v.tables.now e r) content.rows v w (Err error)
     → (set.contains v.tables.now (name.schema.items, name.table.items) ≡ true) × ((cells : List CellValue) × (1 ≤ content.rows (row_of name.schema.items name.table.items cells)))
 found_row content v w error found name is_visitor is_row hands =
-    let G : NoRows → Entry → Result (Unit {0}) Found → NoRows → Type 0 = λ (v : NoRows) (e : Entry) (r : Result (Unit {0}) Found) (w : NoRows). (w ≡ v) × IsLookedAt v.tables.now e r in
+    let G : NoRows → Entry → Result (Unit {0}) FoundRow → NoRows → Type 0 = λ (v : NoRows) (e : Entry) (r : Result (Unit {0}) FoundRow) (w : NoRows). (w ≡ v) × IsLookedAt v.tables.now e r in
     let it = subst (λ f. Hands G content.rows v w (Err (VisitorError f))) is_row (subst (λ e. Hands G content.rows v w (Err e)) is_visitor hands) in
     let e : Entry = it.1 in
     let some = some_row G (λ (v : NoRows). v.tables.now) (λ v w x looked. looked) content v it.0 e it.2 it.3 in

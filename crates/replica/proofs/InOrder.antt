@@ -1,17 +1,14 @@
 -- Transactions that are given one at a time and applied in order.
-use Rattle.replica.proofs.Names.{◌≡◌, ◌++◌, ◌∷◌, [], ℕ, ◌+◌, ◌≤◌, ◌^◌, ◌-◌, arith, Bool, true, false, List, map, Option, Some, None, Err, IsTrue, inl, inr, refl, sym, ap, subst, ◌∙◌, append_assoc, append-nil, if◌then◌else◌, Ghosts, Trees, Held, Ids, Names, DeliveryValue, Content, HasOutcome, done, adopted, StoreFault, Store, AreOf, Reason, Refused, Database, Memory, Halted, Until, NotAdopted, AppliesAll, IsRefusedBy, delivery_value, Supply, LeavesOnly, HasChanged}
-use Rattle.std.proofs.Common.{IfNone}
+use Rattle.replica.proofs.Names.{◌≡◌, ◌++◌, ◌∷◌, [], ℕ, ◌+◌, ◌≤◌, ◌^◌, ◌-◌, arith, Bool, true, false, List, Some, None, Err, IsTrue, inl, inr, refl, sym, ap, subst, ◌∙◌, append_assoc, append-nil, if◌then◌else◌, Ghosts, Trees, Held, Ids, Names, DeliveryValue, Content, HasOutcome, done, adopted, StoreFault, Store, AreOf, Reason, Refused, Database, Memory, Halted, Until, NotAdopted, AppliesAll, IsRefusedBy, Supply, LeavesOnly, HasChanged}
 use Rattle.std.specs.Int.{from_bool}
-use Rattle.std.specs.Option.{option_to_list}
 use Rattle.std.proofs.lemmas.List.{length_push}
 use Rattle.sqlite.specs.Held.{state}
 use Rattle.store.specs.declared.fault.StoreFault.TheVariants as fault
 use Rattle.store.specs.Store.{Holds, Adopts, LeavesAdopted}
 use Rattle.store.proofs.ExecutedInMemory as applying
-use Rattle.replica.specs.declared.changing.ChangeEnd.{ChangeEnd}
-use Rattle.replica.specs.declared.changing.ChangeEnd.TheVariants.{AllGiven, NotGiven, Stopped, TooMany}
-use Rattle.gather.specs.declared.transaction.Delivery.{Delivery}
-use Rattle.replica.specs.Given.{listed, BeginWith, GivesFirst, GivesOne}
+use Rattle.replica.specs.declared.change.changing.ChangeEnd.{ChangeEnd}
+use Rattle.replica.specs.declared.change.changing.ChangeEnd.TheVariants.{AllGiven, NotGiven, Stopped, TooMany}
+use Rattle.gather.specs.Given.{BeginWith, GivesFirst}
 use Rattle.replica.specs.Alone.{IsAppliedOrKnown, IsNotApplied}
 use Rattle.replica.specs.Changing.{TakesNext, HasTakenSome}
 use Rattle.replica.proofs.Push.{applies_push}
@@ -35,27 +32,6 @@ all_of first last xs a none = subst (λ (ds : List DeliveryValue). first.are_all
 
 pub gives_all : (first last : Supply) (xs : List DeliveryValue) → GivesFirst first xs last → BeginWith first (xs ++ [])
 gives_all first last xs a = a.begins [] tt
-
-listed_begins : (old new : List Delivery) (d : Delivery) → map delivery_value old ≡ delivery_value d ∷ map delivery_value new
-    → (more : List DeliveryValue) → BeginWith (listed (map delivery_value new)) more → BeginWith (listed (map delivery_value old)) (delivery_value d ∷ more)
-listed_begins old new d same [] begin = (map delivery_value new, same)
-listed_begins old new d same (e ∷ more) begin = (begin.0, same ∙ ap (λ (ds : List DeliveryValue). delivery_value d ∷ ds) begin.1)
-
--- the first one of a list, or none where it is empty
-pub pops : (old new : List Delivery) (first : Option Delivery) → old ≡ option_to_list first ++ new → IfNone first (new ≡ []) → GivesOne (listed (map delivery_value old)) (listed (map delivery_value new)) first
-pops old new (Some d) is none =
-    let same : map delivery_value old ≡ delivery_value d ∷ map delivery_value new = ap (λ (ds : List Delivery). map delivery_value ds) is in
-    record {
-      begins = λ more begin. listed_begins old new d same more begin;
-      are_all = λ more all. same ∙ ap (λ (ds : List DeliveryValue). delivery_value d ∷ ds) all;
-    }
-pops old new None is none = (
-  record {
-    begins = λ more begin. subst (λ (ds : List Delivery). BeginWith (listed (map delivery_value ds)) more) (sym is) begin;
-    are_all = λ more all. ap (λ (ds : List Delivery). map delivery_value ds) is ∙ all;
-  },
-  ap (λ (ds : List Delivery). map delivery_value ds) none,
-)
 
 -- how many transactions are new of one
 pub counts_one : (is_new : Bool) → from_bool is_new ≡ (if is_new then 1 else 0)

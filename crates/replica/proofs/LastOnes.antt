@@ -2,7 +2,7 @@
 use Rattle.replica.proofs.Names.{◌≡◌, inl, inr, Bool, true, false, List, [], ◌∷◌, ◌++◌, Option, None, Result, Ok, Err, refl, sym, ap, ◌∙◌, append_assoc, subst, true≢false, false≢true, DeliveryValue, Supply}
 use Rattle.std.specs.Result.{IsErr}
 use Rattle.gather.specs.declared.transaction.Delivery.{Delivery}
-use Rattle.replica.specs.Given.{BeginWith, GivesFirst, GivesOne, GivesNext, listed, then_last, unless_last}
+use Rattle.gather.specs.Given.{BeginWith, GivesFirst, GivesOne, GivesNext, listed, then_last, unless_last}
 
 module _ (left : Supply) (last : DeliveryValue) where
   lifted : (ds : List DeliveryValue) → BeginWith left ds → BeginWith (then_last left last) ds

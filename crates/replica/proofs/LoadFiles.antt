@@ -13,12 +13,12 @@ use Rattle.store.specs.declared.fault.StoreFault.TheVariants as fault
 use Rattle.store.specs.declared.listing.ListError.TheVariants.{Store as StoreError, Visitor as VisitorError}
 use Rattle.store.specs.Listing.{HoldsListed}
 use Rattle.store.specs.Store.{Holds, Keeps}
-use Rattle.replica.specs.declared.loading.LoadEnd.{LoadEnd}
-use Rattle.replica.specs.declared.loading.LoadEnd.TheVariants.{Changed, HadEnded, Refused}
-use Rattle.replica.specs.declared.loading.Unloadable.{Unloadable}
+use Rattle.replica.specs.declared.change.loading.LoadEnd.{LoadEnd}
+use Rattle.replica.specs.declared.change.loading.LoadEnd.TheVariants.{Changed, HadEnded, Refused}
+use Rattle.replica.specs.declared.change.loading.Unloadable.{Unloadable}
 use Rattle.replica.specs.Marks.{ended_number, is_unfinished}
-use Rattle.replica.specs.Given.{empty_of, then_last, unless_last}
-use Rattle.replica.specs.Copies.{Copy, IsNotGivenUp, MayNotLoad, end_of_copy, was_begun, with_marks}
+use Rattle.gather.specs.Given.{empty_of, then_last, unless_last}
+use Rattle.replica.specs.Copies.{Copy, MayNotLoad, end_of_copy, was_begun, with_marks}
 use Rattle.replica.specs.Loading.{JudgesCopy, HasLoaded, IsLedByLoad}
 use Rattle.replica.specs.LoadFile.{LoadsTo, IsNotedOfLoad}
 use Rattle.replica.proofs.CaptureFiles.{clean_before_closing, noted_of_files}

@@ -23,7 +23,7 @@ pub use Rattle.replica.specs.End.{IsWrong, HasNext, StopsAt, Denies, End, StopsF
 pub use Rattle.replica.specs.Failing.{HaveFailed}
 pub use Rattle.replica.specs.File.{FilesHold, AreClosedWith, KeepsContent}
 pub use Rattle.replica.specs.Follow.{IsInFull}
-pub use Rattle.replica.specs.Given.{Supply}
+pub use Rattle.gather.specs.Given.{Supply}
 pub use Rattle.replica.specs.Keeps.{KeepsStore, KeepsObserved, KeepsSinceOpening}
 pub use Rattle.replica.specs.Message.{begins_event, refusal_of, IsNoEvent}
 pub use Rattle.replica.specs.Missing.{is_over, waits_for_none}
@@ -36,13 +36,13 @@ pub use Rattle.replica.specs.Sent.{SentFor}
 pub use Rattle.replica.specs.Settings.{Settings}
 pub use Rattle.replica.specs.Standing.{GoesOn, HasEnded, end_of, HasPayload, room_of, due_of, due_at}
 pub use Rattle.replica.specs.Stream.{Reading, Hello, next_id, due_after, Due, SecondReply, QueryReply, InDump, next_due, due_from, Carries, Answers, Talks, Reply, IsInDump}
-pub use Rattle.replica.specs.declared.captures.Capture.{Capture}
-pub use Rattle.replica.specs.declared.changing.ChangeEnd.TheVariants.{NotAdopted}
-pub use Rattle.replica.specs.declared.end.Ended.{Ended}
-pub use Rattle.replica.specs.declared.end.Reason.{Reason}
-pub use Rattle.replica.specs.declared.end.Reason.TheVariants.{EndOfInput, Memory, Wire, SourceEof, SourceError, Greet, Event, Gather, Refused, Database, ReadFailed, WriteFailed, Halted, Until}
-pub use Rattle.replica.specs.declared.end.Refusal.TheVariants.{NoSuchRow, CountFull}
-pub use Rattle.replica.specs.declared.phase.Phase.{Phase}
+pub use Rattle.replica.specs.declared.source.captures.Capture.{Capture}
+pub use Rattle.replica.specs.declared.change.changing.ChangeEnd.TheVariants.{NotAdopted}
+pub use Rattle.replica.specs.declared.session.end.Ended.{Ended}
+pub use Rattle.replica.specs.declared.session.end.Reason.{Reason}
+pub use Rattle.replica.specs.declared.session.end.Reason.TheVariants.{EndOfInput, Memory, Wire, SourceEof, SourceError, Greet, Event, Gather, Refused, Database, ReadFailed, WriteFailed, Halted, Until}
+pub use Rattle.replica.specs.declared.session.end.Refusal.TheVariants.{NoSuchRow, CountFull}
+pub use Rattle.replica.specs.declared.session.phase.Phase.{Phase}
 pub use Rattle.replica.specs.declared.session.Session.{Session}
 pub use Rattle.scripted_source.specs.Script.{ScriptValue, PartValue}
 pub use Rattle.scripted_source.specs.Source.{events_of, CanSend}

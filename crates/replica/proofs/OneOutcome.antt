@@ -6,7 +6,7 @@ use Rattle.gather.proofs.ShorterLists as shortening
 use Rattle.store.specs.Changes.{IsDone}
 use Rattle.store.specs.declared.row_change.Refusal.TheVariants as why
 use Rattle.store.specs.declared.row_change.Refusal as row
-use Rattle.replica.specs.declared.end.Refusal.{Refusal}
+use Rattle.replica.specs.declared.session.end.Refusal.{Refusal}
 use Rattle.replica.specs.End.{Rest, rest_of}
 use Rattle.replica.specs.Conn.{NextAnswers, IsRefusedNext, IsOfBytes}
 use Rattle.replica.specs.Report.{report_of}

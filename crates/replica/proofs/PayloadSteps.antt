@@ -1,9 +1,9 @@
 -- A session takes a payload.
 use Rattle.replica.proofs.Names.{◌≡◌, ◌≢◌, ℕ, ◌+◌, ◌^◌, ◌<◌, ◌≤◌, Bool, List, [], ◌∷◌, ◌++◌, length, Some, None, MatchOption, inl, inr, refl, sym, ap, subst, ◌∙◌, append_assoc, append-nil, arith, length-append, packing_length, IsUnfinished, Payload, nothing_yet, length_packing, Names, Content, Reason, EndOfInput, SourceError, Wire, Greet, Memory, Ended, Phase, Session, Hello, IsInDump, next_due, next_id, due_after, StopsAt, AppliesAll, Why, BreaksStore, SentFor, GoesOn, HasEnded, HasPayload, due_at, due_of, room_of, IsAnswered, EndsAt}
 use Rattle.wire.specs.declared.fault.WireFault.TheVariants as wire
-use Rattle.replica.specs.declared.phase.Phase.TheVariants as phases
-use Rattle.replica.specs.declared.phase.Login.{Login}
-use Rattle.replica.specs.declared.phase.Login.TheVariants as login
+use Rattle.replica.specs.declared.session.phase.Phase.TheVariants as phases
+use Rattle.replica.specs.declared.session.phase.Login.{Login}
+use Rattle.replica.specs.declared.session.phase.Login.TheVariants as login
 use Rattle.replica.specs.End.{rest_of}
 use Rattle.replica.specs.Sent.{Sent}
 use Rattle.replica.specs.Standing.{Parts, Position, parts_of, sends_on, Stands, first_id_of}

@@ -1,8 +1,8 @@
 -- What follows from a session's position.
 use Rattle.replica.proofs.Names.{◌≡◌, ℕ, Bool, true, false, List, [], ◌++◌, refl, sym, ap, ◌∙◌, inl, Some, None, is_some, MatchOption, unwrap_or, append-nil, subst, Vec, Global, Option, arith, false≢true, Names, ReaderState, IsUnfinished, nothing_yet, Gatherer, Content, EndOfInput, Ended, Session, Settings, Reading, Conn, BreaksStore, SentFor, GoesOn, HasEnded, end_of}
 use Rattle.gather.specs.Standing.{HasGathered as Gathers}
-use Rattle.replica.specs.declared.phase.Login.TheVariants.{Greeting}
-use Rattle.replica.specs.declared.phase.Phase.TheVariants.{Login}
+use Rattle.replica.specs.declared.session.phase.Login.TheVariants.{Greeting}
+use Rattle.replica.specs.declared.session.phase.Phase.TheVariants.{Login}
 use Rattle.replica.specs.Standing.{Position, parts_of, from_start, reads_on, sends_on, Stands}
 use Rattle.replica.proofs.Extend.{conn-append, sent-append}
 

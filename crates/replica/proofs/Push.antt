@@ -2,8 +2,8 @@
 use Rattle.replica.proofs.Names.{◌≡◌, ℕ, ◌+◌, ◌^◌, ◌<◌, true, false, List, [], ◌∷◌, ◌++◌, length, flat_map, inl, inr, refl, sym, ap, subst, ◌∙◌, append_assoc, append-nil, arith, length-append, IsWholePayload, Payload, Ids, Names, EventValue, DeliveryValue, AreDeliveries, Content, Phase, Settings, Due, Hello, Reply, SecondReply, QueryReply, InDump, next_due, next_id, due_from, due_after, IsInDump, Answers, Talks, Reading, AppliesAll, IsDumpTooLong, due_of}
 use Rattle.std.proofs.Common.{if◌then◌else◌}
 use Rattle.gather.specs.Transaction.{AreBlocks, IsBlock}
-use Rattle.replica.specs.declared.phase.Phase.TheVariants as phases
-use Rattle.replica.specs.declared.phase.Login.TheVariants as login
+use Rattle.replica.specs.declared.session.phase.Phase.TheVariants as phases
+use Rattle.replica.specs.declared.session.phase.Login.TheVariants as login
 use Rattle.replica.specs.Stream.{begins_switch}
 use Rattle.replica.specs.Sent.{Responds, RespondsFrom}
 use Rattle.replica.specs.Standing.{first_id_of}

@@ -5,7 +5,7 @@ use Rattle.sqlite_disk.specs.declared.Disk.{Ghosts}
 use Rattle.sqlite_wal.specs.Files.{outcomes}
 use Rattle.sqlite.specs.Files.{image_of}
 use Rattle.sqlite.specs.Closing.{HoldsAlone}
-use Rattle.replica.specs.declared.counted.Counted.{Counted}
+use Rattle.replica.specs.declared.source.counted.Counted.{Counted}
 use Rattle.replica.specs.Resume.{Reaches, Restarts, end_reason}
 use Rattle.replica.specs.declared.file.Unopened.{Unopened}
 use Rattle.replica.specs.File.{IsTurnedAway}

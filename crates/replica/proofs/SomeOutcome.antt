@@ -8,7 +8,7 @@ use Rattle.gather.specs.Transaction.{insert, delete, update}
 use Rattle.store.specs.Changes.{IsAdded, IsDone, repeat}
 use Rattle.store.specs.declared.row_change.Refusal.TheVariants as why
 use Rattle.store.specs.declared.row_change.Refusal as row
-use Rattle.replica.specs.declared.end.Refusal.{Refusal}
+use Rattle.replica.specs.declared.session.end.Refusal.{Refusal}
 
 -- ---- Rows are equal or not.
 

@@ -1,6 +1,6 @@
 -- What a stream reports of its own failures over several calls.
 use Rattle.replica.proofs.Names.{◌≡◌, ℕ, ◌+◌, ◌<◌, ◌≤◌, Option, Some, None, refl, ap, arith, Reason, ReadFailed, WriteFailed, IsNoStreamFailure, HaveFailed}
-use Rattle.replica.specs.declared.counted.Counted.{Counted}
+use Rattle.replica.specs.declared.source.counted.Counted.{Counted}
 use Rattle.replica.specs.Follow.{failed_reads_of, failed_writes_of, ReportsFailures}
 
 -- no call was made

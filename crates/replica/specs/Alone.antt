@@ -8,8 +8,8 @@ use Rattle.store.specs.Changes.{HasOutcome, done, is_executed}
 use Rattle.store.specs.declared.fault.StoreFault.TheVariants as fault
 use Rattle.store.specs.declared.store.Store.{Store}
 use Rattle.store.specs.Store.{Holds, HasFailed, AreOf, database, names_of}
-use Rattle.replica.specs.declared.end.Reason.{Reason}
-use Rattle.replica.specs.declared.end.Reason.TheVariants.{Refused, Database, Memory, Halted}
+use Rattle.replica.specs.declared.session.end.Reason.{Reason}
+use Rattle.replica.specs.declared.session.end.Reason.TheVariants.{Refused, Database, Memory, Halted}
 use Rattle.replica.specs.Conn.{AppliesAll, IsRefusedBy, IsOwn}
 
 -- It is not applied since the observer has stopped, or for a reason that is neither the observer's nor a stream's.

@@ -4,11 +4,11 @@ use Rattle.std.specs.Io.KnownBytes.{Consumes, IsAtEnd}
 use Rattle.sqlite_trees.specs.declared.store.Store.{Ghosts}
 use Rattle.store.specs.State.{Content}
 use Rattle.store.specs.declared.store.Store.{Store}
-use Rattle.replica.specs.declared.captures.Capture.{Capture}
-use Rattle.replica.specs.declared.captures.Halt.{Halt}
-use Rattle.replica.specs.declared.captures.Halt.TheVariants.{Reader, Observer}
-use Rattle.replica.specs.declared.end.Reason.TheVariants.{EndOfInput}
-use Rattle.replica.specs.declared.end.Ended.{Ended}
+use Rattle.replica.specs.declared.source.captures.Capture.{Capture}
+use Rattle.replica.specs.declared.source.captures.Halt.{Halt}
+use Rattle.replica.specs.declared.source.captures.Halt.TheVariants.{Reader, Observer}
+use Rattle.replica.specs.declared.session.end.Reason.TheVariants.{EndOfInput}
+use Rattle.replica.specs.declared.session.end.Ended.{Ended}
 use Rattle.replica.specs.Conn.{StoreState}
 use Rattle.replica.specs.Over.{HasRead}
 use Rattle.replica.specs.Noted.{Account, MayEnd}

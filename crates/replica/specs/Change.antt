@@ -8,13 +8,13 @@ use Rattle.store.specs.State.{Content}
 use Rattle.store.specs.Changes.{HasOutcome, done, is_executed, adopted}
 use Rattle.store.specs.Faults.{IsFailure}
 use Rattle.store.specs.declared.fault.StoreFault.TheVariants as fault
-use Rattle.replica.specs.declared.end.Reason.TheVariants.{Refused, Database, Memory, Halted, Until}
-use Rattle.replica.specs.declared.changing.ChangeEnd.{ChangeEnd}
-use Rattle.replica.specs.declared.changing.ChangeEnd.TheVariants.{AllGiven, NotGiven, Stopped, TooMany, NotAdopted}
+use Rattle.replica.specs.declared.session.end.Reason.TheVariants.{Refused, Database, Memory, Halted, Until}
+use Rattle.replica.specs.declared.change.changing.ChangeEnd.{ChangeEnd}
+use Rattle.replica.specs.declared.change.changing.ChangeEnd.TheVariants.{AllGiven, NotGiven, Stopped, TooMany, NotAdopted}
 use Rattle.replica.specs.Conn.{AppliesAll, IsRefusedBy, IsOwn}
 use Rattle.replica.specs.Noted.{Account}
 use Rattle.replica.specs.Missing.{waits_for_none}
-use Rattle.replica.specs.Given.{Supply, BeginWith}
+use Rattle.gather.specs.Given.{Supply, BeginWith}
 
 -- The set was adopted, so that transactions were asked for.
 abbrev pub IsAdopted : {E : Type 0} → ChangeEnd E → Type 0

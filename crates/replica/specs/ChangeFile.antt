@@ -7,10 +7,10 @@ use Rattle.sqlite_store.specs.FileStore.{view}
 use Rattle.gtid.specs.Identifier.{Ids}
 use Rattle.binlog.specs.Filter.{Names}
 use Rattle.store.specs.State.{Content}
-use Rattle.replica.specs.declared.changed_file.ChangedFile.{ChangedFile}
+use Rattle.replica.specs.declared.file.changed.ChangedFile.{ChangedFile}
 use Rattle.replica.specs.File.{AreClosedWith}
 use Rattle.replica.specs.FollowFile.{MayHold}
-use Rattle.replica.specs.Given.{Supply}
+use Rattle.gather.specs.Given.{Supply}
 use Rattle.replica.specs.Change.{Changes, IsLeftOfChange}
 
 -- The closed files hold the content that the transactions have led to. Files that could not be closed may be left with that

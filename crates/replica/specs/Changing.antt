@@ -8,10 +8,10 @@ use Rattle.gather.specs.Transaction.{DeliveryValue}
 use Rattle.store.specs.State.{Content}
 use Rattle.store.specs.declared.store.Store.{Store}
 use Rattle.store.specs.Store.{Holds, HoldsAs}
-use Rattle.replica.specs.declared.changing.ChangeEnd.{ChangeEnd}
-use Rattle.replica.specs.declared.changing.ChangeEnd.TheVariants.{AllGiven, NotGiven, Stopped}
+use Rattle.replica.specs.declared.change.changing.ChangeEnd.{ChangeEnd}
+use Rattle.replica.specs.declared.change.changing.ChangeEnd.TheVariants.{AllGiven, NotGiven, Stopped}
 use Rattle.replica.specs.Conn.{AppliesAll}
-use Rattle.replica.specs.Given.{Supply, GivesFirst}
+use Rattle.gather.specs.Given.{Supply, GivesFirst}
 use Rattle.replica.specs.Alone.{IsAppliedOrKnown, IsNotApplied}
 use Rattle.replica.specs.Over.{LeavesOnly}
 use Rattle.replica.specs.Change.{Changes, IsLeftOfChange}

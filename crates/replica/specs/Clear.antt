@@ -10,9 +10,9 @@ use Rattle.store.specs.State.{TableRow, row_of, Bag, Content}
 use Rattle.store.specs.Listing.{Entry, ListsBag}
 use Rattle.store.specs.Faults.{IsFailure}
 use Rattle.store.specs.declared.fault.StoreFault.TheVariants as fault
-use Rattle.replica.specs.declared.end.Reason.TheVariants.{Database, Memory, Halted}
-use Rattle.replica.specs.declared.clearing.ClearEnd.{ClearEnd}
-use Rattle.replica.specs.declared.clearing.ClearEnd.TheVariants.{Cleared, Repeat, NotFollowed, OtherSet, Failed, Stopped}
+use Rattle.replica.specs.declared.session.end.Reason.TheVariants.{Database, Memory, Halted}
+use Rattle.replica.specs.declared.change.clearing.ClearEnd.{ClearEnd}
+use Rattle.replica.specs.declared.change.clearing.ClearEnd.TheVariants.{Cleared, Repeat, NotFollowed, OtherSet, Failed, Stopped}
 use Rattle.replica.specs.Copies.{HasJust}
 use Rattle.replica.specs.Noted.{Account}
 use Rattle.replica.specs.Alone.{IsOwnOrHalted}

@@ -6,7 +6,7 @@ use Rattle.sqlite_trees.specs.View.{IsClean}
 use Rattle.sqlite_store.specs.FileStore.{view}
 use Rattle.binlog.specs.Filter.{Names}
 use Rattle.store.specs.State.{Content}
-use Rattle.replica.specs.declared.cleared_file.ClearedFile.{ClearedFile}
+use Rattle.replica.specs.declared.file.cleared.ClearedFile.{ClearedFile}
 use Rattle.replica.specs.File.{AreClosedWith}
 use Rattle.replica.specs.FollowFile.{MayHold}
 use Rattle.replica.specs.Clear.{TableClear, ClearsTo, IsLeftOfClear}

@@ -14,11 +14,11 @@ use Rattle.store.specs.declared.listing.ListError.{ListError}
 use Rattle.store.specs.declared.listing.ListError.TheVariants.{Store as StoreError, Visitor as VisitorError}
 use Rattle.store.specs.declared.store.Store.{Store}
 use Rattle.store.specs.Store.{Holds, database, names_of}
-use Rattle.replica.specs.declared.connections.NoMemory.{NoMemory}
-use Rattle.replica.specs.declared.end.Reason.{Reason}
-use Rattle.replica.specs.declared.clearing.ClearEnd.{ClearEnd}
-use Rattle.replica.specs.declared.clearing.ClearEnd.TheVariants.{Cleared, Repeat, Stopped}
-use Rattle.replica.specs.declared.clearing.TableRows.{TableRows}
+use Rattle.replica.specs.declared.source.connections.NoMemory.{NoMemory}
+use Rattle.replica.specs.declared.session.end.Reason.{Reason}
+use Rattle.replica.specs.declared.change.clearing.ClearEnd.{ClearEnd}
+use Rattle.replica.specs.declared.change.clearing.ClearEnd.TheVariants.{Cleared, Repeat, Stopped}
+use Rattle.replica.specs.declared.change.clearing.TableRows.{TableRows}
 use Rattle.replica.specs.Clear.{TableClear, is_in_table, ClearsTo, IsLeftOfClear}
 use Rattle.replica.specs.Noted.{Account, IsLeftOfNoted, IsNotedSinceOpening}
 use Rattle.replica.specs.Over.{LeavesOnly, HasStayed}

@@ -14,11 +14,11 @@ use Rattle.store.specs.declared.fault.StoreFault.TheVariants as fault
 use Rattle.store.specs.State.{Content}
 use Rattle.store.specs.Changes.{HasOutcome, done, repeat, refused, is_executed}
 use Rattle.store.specs.declared.row_change.Refusal.TheVariants as why
-use Rattle.replica.specs.declared.end.Refusal.{Refusal}
-use Rattle.replica.specs.declared.end.Refusal.TheVariants.{NoSuchRow, CountFull}
-use Rattle.replica.specs.declared.end.Reason.{Reason}
-use Rattle.replica.specs.declared.end.Reason.TheVariants.{EndOfInput, Wire, Refused, Database, Memory, ReadFailed, WriteFailed, Halted, Until}
-use Rattle.replica.specs.declared.end.Ended.{Ended}
+use Rattle.replica.specs.declared.session.end.Refusal.{Refusal}
+use Rattle.replica.specs.declared.session.end.Refusal.TheVariants.{NoSuchRow, CountFull}
+use Rattle.replica.specs.declared.session.end.Reason.{Reason}
+use Rattle.replica.specs.declared.session.end.Reason.TheVariants.{EndOfInput, Wire, Refused, Database, Memory, ReadFailed, WriteFailed, Halted, Until}
+use Rattle.replica.specs.declared.session.end.Ended.{Ended}
 use Rattle.replica.specs.Stream.{Due, QueryReply, IsInDump, Carries, Reading, due_after}
 use Rattle.wire.specs.Payload.{Payload}
 use Rattle.replica.specs.End.{Rest, rest_of, StopsAt, EndsLog, StopsFor}

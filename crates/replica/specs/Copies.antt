@@ -9,11 +9,11 @@ use Rattle.binlog.specs.Filter.{Names, admits}
 use Rattle.gather.specs.Transaction.{DeliveryValue}
 use Rattle.store.specs.State.{Content, row_of}
 use Rattle.store.specs.Faults.{IsFailure}
-use Rattle.replica.specs.Given.{Supply, then_last}
+use Rattle.gather.specs.Given.{Supply, then_last}
 use Rattle.replica.specs.Marks.{is_of_copy, begun_number, ended_number, given_up_number, is_unfinished, NoOtherUnfinished}
-use Rattle.replica.specs.declared.loading.FirstCopy.{FirstCopy}
-use Rattle.replica.specs.declared.loading.Unloadable.{Unloadable}
-use Rattle.replica.specs.declared.loading.Unloadable.TheVariants.{GivenUp, Unfinished, OtherSet, LeftOut, HasRows, Failed}
+use Rattle.replica.specs.declared.change.loading.FirstCopy.{FirstCopy}
+use Rattle.replica.specs.declared.change.loading.Unloadable.{Unloadable}
+use Rattle.replica.specs.declared.change.loading.Unloadable.TheVariants.{GivenUp, Unfinished, OtherSet, LeftOut, HasRows, Failed}
 
 -- A copy that is loaded: what is known of its transactions that are still to be given, the set at which its rows were read, the first
 -- GTID of its source, and the tables that it has rows of.

@@ -6,8 +6,8 @@ use Rattle.store.specs.State.{Content}
 use Rattle.store.specs.Changes.{HasOutcome, done}
 use Rattle.sqlite.specs.declared.error.Error.{Error}
 use Rattle.store.specs.declared.fault.StoreFault.TheVariants as fault
-use Rattle.replica.specs.declared.end.Reason.TheVariants.{Database}
-use Rattle.replica.specs.declared.end.Ended.{Ended}
+use Rattle.replica.specs.declared.session.end.Reason.TheVariants.{Database}
+use Rattle.replica.specs.declared.session.end.Ended.{Ended}
 use Rattle.replica.specs.Stream.{Reading, due_after}
 use Rattle.replica.specs.End.{rest_of}
 use Rattle.replica.specs.Conn.{HasApplied, NextEnds, Conn, AppliesFirst, StoreState, History}

@@ -10,8 +10,8 @@ use Rattle.greet.specs.View.{Refuses}
 use Rattle.binlog.specs.Filter.{Names}
 use Rattle.binlog.specs.Event.{EventValue, event_fault}
 use Rattle.gather.specs.Fault.{IsFault}
-use Rattle.replica.specs.declared.end.Reason.{Reason}
-use Rattle.replica.specs.declared.end.Reason.TheVariants.{EndOfInput, SourceEof, SourceError, Wire, Greet, Event, Gather}
+use Rattle.replica.specs.declared.session.end.Reason.{Reason}
+use Rattle.replica.specs.declared.session.end.Reason.TheVariants.{EndOfInput, SourceEof, SourceError, Wire, Greet, Event, Gather}
 use Rattle.replica.specs.Stream.{Due, IsInDump, Carries, Reading, due_after}
 use Rattle.replica.specs.Message.{refusal_of, IsNoEvent, IsOfMessage}
 

@@ -10,8 +10,8 @@ use Rattle.store.specs.Changes.{HasOutcome, done, is_executed}
 use Rattle.store.specs.declared.fault.StoreFault.{StoreFault}
 use Rattle.store.specs.declared.store.Store.{Store}
 use Rattle.store.specs.Store.{HoldsAs, AreOf, database, names_of}
-use Rattle.replica.specs.declared.end.Reason.{Reason}
-use Rattle.replica.specs.declared.end.Reason.TheVariants.{Refused, Database, Memory, Halted}
+use Rattle.replica.specs.declared.session.end.Reason.{Reason}
+use Rattle.replica.specs.declared.session.end.Reason.TheVariants.{Refused, Database, Memory, Halted}
 use Rattle.replica.specs.Stream.{Carries}
 use Rattle.wire.specs.Payload.{Payload}
 use Rattle.replica.specs.Conn.{AppliesAll, IsRefusedBy, FailsFor}

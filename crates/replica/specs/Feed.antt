@@ -7,8 +7,8 @@ use Rattle.gtid.specs.Identifier.{Id, Ids}
 use Rattle.binlog.specs.Filter.{Names}
 use Rattle.gather.specs.Transaction.{ChangeValue, DeliveryValue}
 use Rattle.store.specs.State.{Content}
-use Rattle.replica.specs.declared.end.Reason.{Reason}
-use Rattle.replica.specs.declared.end.Reason.TheVariants.{Database}
+use Rattle.replica.specs.declared.session.end.Reason.{Reason}
+use Rattle.replica.specs.declared.session.end.Reason.TheVariants.{Database}
 use Rattle.replica.specs.Noted.{Notice, opened, before, stopped, after, ended, LeadsBy, BeginsWith, fails_by, EndsAtFailure, IsLeftOfNoted}
 
 -- ---- What is written.

@@ -6,13 +6,13 @@ use Rattle.binlog.specs.Filter.{Names}
 use Rattle.store.specs.State.{Content}
 use Rattle.store.specs.declared.store.Store.{Store}
 use Rattle.store.specs.Store.{database, names_of}
-use Rattle.replica.specs.declared.counted.Counted.{Counted}
-use Rattle.replica.specs.declared.end.Reason.{Reason}
-use Rattle.replica.specs.declared.end.Reason.TheVariants.{EndOfInput, Refused, Database, Memory, ReadFailed, WriteFailed, Halted, Until}
-use Rattle.replica.specs.declared.end.Ended.{Ended}
+use Rattle.replica.specs.declared.source.counted.Counted.{Counted}
+use Rattle.replica.specs.declared.session.end.Reason.{Reason}
+use Rattle.replica.specs.declared.session.end.Reason.TheVariants.{EndOfInput, Refused, Database, Memory, ReadFailed, WriteFailed, Halted, Until}
+use Rattle.replica.specs.declared.session.end.Ended.{Ended}
 use Rattle.replica.specs.declared.session.Session.{Session}
-use Rattle.replica.specs.declared.following.Turn.{Turn}
-use Rattle.replica.specs.declared.following.Turn.TheVariants as turn
+use Rattle.replica.specs.declared.source.following.Turn.{Turn}
+use Rattle.replica.specs.declared.source.following.Turn.TheVariants as turn
 use Rattle.replica.specs.Settings.{Settings}
 use Rattle.replica.specs.Failing.{HaveFailed}
 use Rattle.replica.specs.Conn.{Conn, IsOfBytes, EndsInLast, reported_as}

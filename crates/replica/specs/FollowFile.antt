@@ -14,10 +14,10 @@ use Rattle.store.specs.State.{Content}
 use Rattle.store.specs.declared.store.Store.{Store}
 use Rattle.store.specs.Store.{Holds, names_of}
 use Rattle.store.specs.Entering.{IsLeft}
-use Rattle.replica.specs.declared.counted.Counted.{Counted}
-use Rattle.replica.specs.declared.end.Reason.TheVariants.{ReadFailed, WriteFailed}
-use Rattle.replica.specs.declared.end.Ended.{Ended}
-use Rattle.replica.specs.declared.followed_file.FollowedFile.{FollowedFile}
+use Rattle.replica.specs.declared.source.counted.Counted.{Counted}
+use Rattle.replica.specs.declared.session.end.Reason.TheVariants.{ReadFailed, WriteFailed}
+use Rattle.replica.specs.declared.session.end.Ended.{Ended}
+use Rattle.replica.specs.declared.file.followed.FollowedFile.{FollowedFile}
 use Rattle.replica.specs.Settings.{Settings}
 use Rattle.replica.specs.Conn.{StoreState}
 use Rattle.replica.specs.Crash as crash

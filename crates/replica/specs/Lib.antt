@@ -25,7 +25,6 @@ pub mod File
 pub mod NotedFile
 pub mod Replay
 pub mod FollowFile
-pub mod Given
 pub mod Change
 pub mod Alone
 pub mod Changing
@@ -39,5 +38,5 @@ pub mod Copied
 pub mod Clear
 pub mod Clearing
 pub mod ClearFile
-pub mod ListFile
-pub mod AdoptFile
+pub mod Work
+pub mod Adopt

@@ -7,9 +7,9 @@ use Rattle.sqlite.specs.declared.error.Error.{Error}
 use Rattle.binlog.specs.Filter.{Names}
 use Rattle.store.specs.State.{Content}
 use Rattle.store.specs.Changes.{adopted}
-use Rattle.replica.specs.declared.loading.LoadEnd.{LoadEnd}
-use Rattle.replica.specs.declared.loading.LoadEnd.TheVariants.{Changed, HadEnded, Refused}
-use Rattle.replica.specs.declared.loaded_file.LoadedFile.{LoadedFile}
+use Rattle.replica.specs.declared.change.loading.LoadEnd.{LoadEnd}
+use Rattle.replica.specs.declared.change.loading.LoadEnd.TheVariants.{Changed, HadEnded, Refused}
+use Rattle.replica.specs.declared.file.loaded.LoadedFile.{LoadedFile}
 use Rattle.replica.specs.Noted.{Account}
 use Rattle.replica.specs.NotedFile.{IsNotedOfFiles}
 use Rattle.replica.specs.File.{IsCleanlyClosed, KeepsContent}

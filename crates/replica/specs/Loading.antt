@@ -9,11 +9,11 @@ use Rattle.store.specs.Changes.{adopted}
 use Rattle.store.specs.Listing.{Entry}
 use Rattle.store.specs.declared.store.Store.{Store}
 use Rattle.store.specs.Store.{Holds, Keeps}
-use Rattle.replica.specs.declared.loading.Found.{Found}
-use Rattle.replica.specs.declared.loading.Found.TheVariants.{Row, Memory}
-use Rattle.replica.specs.declared.loading.LoadEnd.{LoadEnd}
-use Rattle.replica.specs.declared.loading.LoadEnd.TheVariants.{Changed, HadEnded, Refused}
-use Rattle.replica.specs.declared.loading.Unloadable.{Unloadable}
+use Rattle.replica.specs.declared.change.loading.FoundRow.{FoundRow}
+use Rattle.replica.specs.declared.change.loading.FoundRow.TheVariants.{Row, Memory}
+use Rattle.replica.specs.declared.change.loading.LoadEnd.{LoadEnd}
+use Rattle.replica.specs.declared.change.loading.LoadEnd.TheVariants.{Changed, HadEnded, Refused}
+use Rattle.replica.specs.declared.change.loading.Unloadable.{Unloadable}
 use Rattle.replica.specs.Over.{HasStayed}
 use Rattle.replica.specs.Noted.{Account, IsLedSinceOpening}
 use Rattle.replica.specs.Change.{IsAdopted}
@@ -21,7 +21,7 @@ use Rattle.replica.specs.Changing.{HasChanged}
 use Rattle.replica.specs.Copies.{Copy, MayLoad, MayNotLoad, IsNotGivenUp, with_marks}
 
 -- The row is of none of the tables, or is found to be of one.
-abbrev pub IsLookedAt : Names → Entry → Result (Unit {0}) Found → Type 0
+abbrev pub IsLookedAt : Names → Entry → Result (Unit {0}) FoundRow → Type 0
 IsLookedAt tables entry (Ok u) = set.contains tables (entry.0.schema, entry.0.table) ≡ false
 IsLookedAt tables entry (Err (Row name)) =
     (set.contains tables (entry.0.schema, entry.0.table) ≡ true) × (name.schema.items ≡ entry.0.schema) × (name.table.items ≡ entry.0.table)

@@ -11,9 +11,9 @@ use Rattle.sqlite.specs.declared.error.Error.{Error}
 use Rattle.gtid.specs.Identifier.{Ids}
 use Rattle.binlog.specs.Filter.{Names}
 use Rattle.store.specs.State.{Content}
-use Rattle.replica.specs.declared.counted.Counted.{Counted}
-use Rattle.replica.specs.declared.end.Ended.{Ended}
-use Rattle.replica.specs.declared.end.Reason.TheVariants.{Until}
+use Rattle.replica.specs.declared.source.counted.Counted.{Counted}
+use Rattle.replica.specs.declared.session.end.Ended.{Ended}
+use Rattle.replica.specs.declared.session.end.Reason.TheVariants.{Until}
 use Rattle.store.specs.Entering.{names_for}
 use Rattle.replica.specs.File.{OfHeld, AreClosedWith, KeepsContent}
 use Rattle.replica.specs.FollowFile.{MayHold, CountsFailures}

@@ -2,10 +2,10 @@
 use Rattle.std.specs.Prelude.{◌≡◌, ℕ, false, List, Option, Some, None}
 use Rattle.binlog.specs.Filter.{Names}
 use Rattle.store.specs.State.{Content}
-use Rattle.replica.specs.declared.end.Refusal.{Refusal}
-use Rattle.replica.specs.declared.end.Reason.{Reason}
-use Rattle.replica.specs.declared.end.Reason.TheVariants.{Refused}
-use Rattle.replica.specs.declared.end.Ended.{Ended}
+use Rattle.replica.specs.declared.session.end.Refusal.{Refusal}
+use Rattle.replica.specs.declared.session.end.Reason.{Reason}
+use Rattle.replica.specs.declared.session.end.Reason.TheVariants.{Refused}
+use Rattle.replica.specs.declared.session.end.Ended.{Ended}
 use Rattle.replica.specs.Report.{report_of}
 use Rattle.replica.specs.Conn.{Conn}
 use Rattle.replica.specs.Follow.{IsInFull}

@@ -9,7 +9,7 @@ use Rattle.store.specs.State.{Content}
 use Rattle.store.specs.Apply.{IsAtRest}
 use Rattle.store.specs.declared.store.Store.{Store}
 use Rattle.store.specs.Store.{HoldsAs, AreOf, database, names_of}
-use Rattle.replica.specs.declared.end.Ended.{Ended}
+use Rattle.replica.specs.declared.session.end.Ended.{Ended}
 use Rattle.replica.specs.declared.session.Session.{Session}
 use Rattle.replica.specs.Conn.{Conn, EndsInLast, BreaksStore, History}
 use Rattle.replica.specs.Standing.{Position, Stands, Meets, end_of}

@@ -11,8 +11,8 @@ use Rattle.gtid.specs.Identifier.{Ids}
 use Rattle.gtid.specs.Encoding.{IsEncoding}
 use Rattle.binlog.specs.Filter.{Names}
 use Rattle.binlog.specs.Event.{EventValue}
-use Rattle.replica.specs.declared.end.Reason.{Reason}
-use Rattle.replica.specs.declared.end.Reason.TheVariants.{SourceEof, SourceError, Wire, Greet, Event, Gather, Refused, Database, Memory}
+use Rattle.replica.specs.declared.session.end.Reason.{Reason}
+use Rattle.replica.specs.declared.session.end.Reason.TheVariants.{SourceEof, SourceError, Wire, Greet, Event, Gather, Refused, Database, Memory}
 use Rattle.gather.specs.Transaction.{DeliveryValue}
 use Rattle.gather.specs.Standing.{HasGathered as Gathers}
 use Rattle.gather.specs.declared.gatherer.Gatherer.{Gatherer}
@@ -22,7 +22,7 @@ use Rattle.store.specs.declared.fault.Applied.{Applied}
 use Rattle.store.specs.declared.fault.Applied.TheVariants as applied
 use Rattle.store.specs.declared.fault.StoreFault.{StoreFault}
 use Rattle.store.specs.declared.fault.StoreFault.TheVariants as fault
-use Rattle.replica.specs.declared.end.Refusal.TheVariants.{NoSuchRow, CountFull}
+use Rattle.replica.specs.declared.session.end.Refusal.TheVariants.{NoSuchRow, CountFull}
 use Rattle.replica.specs.Settings.{Settings}
 use Rattle.replica.specs.Stream.{Due, QueryReply, InDump, Answers, Carries}
 use Rattle.wire.specs.Payload.{Payload}

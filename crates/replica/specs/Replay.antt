@@ -10,9 +10,9 @@ use Rattle.sqlite_store.specs.FileStore.{view, recovers}
 use Rattle.binlog.specs.Filter.{Names}
 use Rattle.store.specs.State.{Content}
 use Rattle.store.specs.Entering.{IsLeft}
-use Rattle.replica.specs.declared.captures.Capture.{Capture}
-use Rattle.replica.specs.declared.end.Ended.{Ended}
-use Rattle.replica.specs.declared.replaying.Replayed.{Replayed}
+use Rattle.replica.specs.declared.source.captures.Capture.{Capture}
+use Rattle.replica.specs.declared.session.end.Ended.{Ended}
+use Rattle.replica.specs.declared.file.replaying.Replayed.{Replayed}
 use Rattle.replica.specs.Conn.{History}
 use Rattle.replica.specs.Crash.{IsLeftOfAll}
 use Rattle.replica.specs.Capture.{Reads}

@@ -5,8 +5,8 @@ use Rattle.greet.specs.declared.fault.GreetFault.{GreetFault}
 use Rattle.greet.specs.declared.fault.GreetFault.TheVariants as greet
 use Rattle.binlog.specs.declared.fault.EventFault.{EventFault}
 use Rattle.gather.specs.declared.fault.GatherFault.{GatherFault}
-use Rattle.replica.specs.declared.end.Reason.{Reason}
-use Rattle.replica.specs.declared.end.Reason.TheVariants.{EndOfInput, SourceEof, SourceError, Wire, Greet, Event, Gather}
+use Rattle.replica.specs.declared.session.end.Reason.{Reason}
+use Rattle.replica.specs.declared.session.end.Reason.TheVariants.{EndOfInput, SourceEof, SourceError, Wire, Greet, Event, Gather}
 
 -- What a payload that ends the connection means: the log ends; the payload is not the expected message; its event has a
 -- fault, or may not follow those before it.

@@ -18,9 +18,9 @@ use Rattle.binlog.specs.Filter.{Names}
 use Rattle.store.specs.State.{Content}
 use Rattle.store.specs.Entering.{names_for}
 use Rattle.scripted_source.specs.Script.{ScriptValue}
-use Rattle.replica.specs.declared.counted.Counted.{Counted}
-use Rattle.replica.specs.declared.end.Ended.{Ended}
-use Rattle.replica.specs.declared.followed_file.FollowedFile.{FollowedFile}
+use Rattle.replica.specs.declared.source.counted.Counted.{Counted}
+use Rattle.replica.specs.declared.session.end.Ended.{Ended}
+use Rattle.replica.specs.declared.file.followed.FollowedFile.{FollowedFile}
 use Rattle.replica.specs.Settings.{Settings}
 use Rattle.replica.specs.Follow.{IsInFull}
 use Rattle.replica.specs.Resume.{Reaches, Dialogue, Resumes}

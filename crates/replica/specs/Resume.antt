@@ -8,9 +8,9 @@ use Rattle.binlog.specs.Filter.{Names, admits}
 use Rattle.gather.specs.Transaction.{ChangeValue, DeliveryValue, change_of}
 use Rattle.store.specs.State.{Content}
 use Rattle.store.specs.Open.{nothing}
-use Rattle.replica.specs.declared.end.Reason.{Reason}
-use Rattle.replica.specs.declared.end.Reason.TheVariants.{EndOfInput, SourceEof}
-use Rattle.replica.specs.declared.end.Ended.{Ended}
+use Rattle.replica.specs.declared.session.end.Reason.{Reason}
+use Rattle.replica.specs.declared.session.end.Reason.TheVariants.{EndOfInput, SourceEof}
+use Rattle.replica.specs.declared.session.end.Ended.{Ended}
 use Rattle.replica.specs.Conn.{AppliesAll, Conn}
 use Rattle.replica.specs.Crash.{IsLeftOfOne}
 use Rattle.scripted_source.specs.Script.{PartValue, ScriptValue}

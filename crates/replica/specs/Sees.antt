@@ -6,7 +6,7 @@ use Rattle.binlog.specs.Event.{EventValue}
 use Rattle.gather.specs.Transaction.{DeliveryValue}
 use Rattle.gather.specs.Standing.{ArePending}
 use Rattle.gather.specs.declared.gatherer.Gatherer.{Gatherer}
-use Rattle.replica.specs.declared.end.Reason.{Reason}
+use Rattle.replica.specs.declared.session.end.Reason.{Reason}
 use Rattle.replica.specs.Stream.{Carries}
 use Rattle.replica.specs.PayloadStep.{GathersMore}
 use Rattle.replica.specs.Noted.{Account, Seen, event_read, refused_payload, HasBeenSeen}

@@ -5,13 +5,13 @@ use Rattle.binlog.specs.Filter.{Names}
 use Rattle.gather.specs.Standing.{HasGathered as Gathers}
 use Rattle.gather.specs.declared.gatherer.Gatherer.{Gatherer}
 use Rattle.store.specs.State.{Content}
-use Rattle.replica.specs.declared.end.Reason.{Reason}
-use Rattle.replica.specs.declared.end.Reason.TheVariants.{EndOfInput, SourceEof}
-use Rattle.replica.specs.declared.end.Ended.{Ended}
-use Rattle.replica.specs.declared.phase.Login.{Login}
-use Rattle.replica.specs.declared.phase.Login.TheVariants as login
-use Rattle.replica.specs.declared.phase.Phase.{Phase}
-use Rattle.replica.specs.declared.phase.Phase.TheVariants as phase
+use Rattle.replica.specs.declared.session.end.Reason.{Reason}
+use Rattle.replica.specs.declared.session.end.Reason.TheVariants.{EndOfInput, SourceEof}
+use Rattle.replica.specs.declared.session.end.Ended.{Ended}
+use Rattle.replica.specs.declared.session.phase.Login.{Login}
+use Rattle.replica.specs.declared.session.phase.Login.TheVariants as login
+use Rattle.replica.specs.declared.session.phase.Phase.{Phase}
+use Rattle.replica.specs.declared.session.phase.Phase.TheVariants as phase
 use Rattle.replica.specs.declared.session.Session.{Session}
 use Rattle.replica.specs.Settings.{Settings}
 use Rattle.replica.specs.Stream.{Due, Hello, Reply, SecondReply, QueryReply, InDump, Reading, due_after}

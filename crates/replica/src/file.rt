@@ -13,8 +13,19 @@ ghost use Rattle.store.specs.Store.{Holds, connection, database, names_of};
 ghost use Rattle.store.specs.Entering.{IsWanted, wanted_of, names_for};
 ghost use Rattle.replica.specs.File.{OfHeld, LeavesContent, IsOpenedIn, IsTurnedAway, IsNotOpened};
 
-use crate::file_connection::connect_to;
-use crate::file_pair::{CANNOT_OPEN, NotOpened, give_up, open_pair};
+pub(crate) mod adopting;
+pub(crate) mod changed;
+pub(crate) mod cleared;
+pub(crate) mod connection;
+pub(crate) mod followed;
+pub(crate) mod listing;
+pub(crate) mod loaded;
+pub(crate) mod pair;
+pub(crate) mod replaying;
+pub(crate) mod work;
+
+use crate::file::connection::connect_to;
+use crate::file::pair::{CANNOT_OPEN, NotOpened, give_up, open_pair};
 use binlog::Follow;
 use sqlite::{Connection, Error, FileFrom, FileStore, Files, Leftover, Start};
 use sqlite_disk::Disk;

@@ -22,10 +22,10 @@ ghost use Rattle.replica.specs.Copies.{end_of_copy};
 ghost use Rattle.replica.specs.Copied.{AreAdded, AreCopied, AreNumbered, AreOutside, NoneExecuted, with_all};
 ghost use Rattle.store.specs.Store.{HoldsAs, database, names_of};
 ghost use Rattle.store.specs.Entering.{names_for};
-ghost use Rattle.replica.specs.declared.end.Reason.{Reason};
-ghost use Rattle.replica.specs.declared.end.Reason.TheVariants.{EndOfInput, Wire};
+ghost use Rattle.replica.specs.declared.session.end.Reason.{Reason};
+ghost use Rattle.replica.specs.declared.session.end.Reason.TheVariants.{EndOfInput, Wire};
 ghost use Rattle.wire.specs.declared.fault.WireFault.TheVariants as wire;
-ghost use Rattle.replica.specs.declared.end.Ended.{Ended};
+ghost use Rattle.replica.specs.declared.session.end.Ended.{Ended};
 ghost use Rattle.replica.specs.Stream.{Reading};
 ghost use Rattle.replica.specs.End.{End};
 ghost use Rattle.replica.specs.Report.{report_of};
@@ -43,10 +43,10 @@ ghost use Rattle.replica.specs.Feed.{FileLine, open_line, whole_line, Reader, at
 ghost use Rattle.replica.specs.Restart.{Starts, IsUncut, MayFindUnopened, AreStarts, HoldFirst, FilesNeverFall};
 ghost use Rattle.replica.specs.Resume.{Resumes, Leads, Reaches, AreRestarts, NeverFalls, part_changes, transaction, transactions, end_reason};
 
-use crate::connect::Connect;
-use crate::counted::Duplex;
 use crate::file::Unopened;
 use crate::session::Session;
+use crate::source::connect::Connect;
+use crate::source::counted::Duplex;
 use sqlite::{Alter, Files};
 use sqlite_disk::Disk;
 use store::Store;

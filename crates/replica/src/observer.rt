@@ -6,7 +6,7 @@ ghost use Rattle.gather.specs.View.{delivery_value};
 ghost use Rattle.replica.specs.Noted.{Account, Excludes, HasNotices, HasNoNotice, HasBeenSeen, opened, before, stopped, after, ended, event_read, refused_payload};
 ghost use Rattle.replica.specs.Missing.{waits_for_none};
 
-use crate::end::{Ended, Reason};
+use crate::session::end::{Ended, Reason};
 use binlog::Event;
 use gather::Delivery;
 use gtid::GtidSet;

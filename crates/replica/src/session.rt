@@ -5,9 +5,18 @@
 
 ghost use Rattle.std.specs.Prelude.{◌≤◌};
 
-use crate::config::Config;
-use crate::end::Ended;
-use crate::phase::Phase;
+pub(crate) mod config;
+pub(crate) mod dump;
+pub(crate) mod end;
+pub(crate) mod feed;
+pub(crate) mod login;
+pub(crate) mod message;
+pub(crate) mod payload;
+pub(crate) mod phase;
+
+use crate::session::config::Config;
+use crate::session::end::Ended;
+use crate::session::phase::Phase;
 use gather::Gatherer;
 use wire::Assembler;
 

@@ -5,8 +5,8 @@ ghost use Rattle.gather.specs.View.{delivery_value};
 ghost use Rattle.replica.specs.Noted.{StillWaits, after};
 ghost use Rattle.replica.specs.Missing.{is_over, IsLeftOf};
 
-use crate::end::{Ended, Reason};
 use crate::observer::Observer;
+use crate::session::end::{Ended, Reason};
 use binlog::Event;
 use gather::Delivery;
 use gtid::GtidSet;

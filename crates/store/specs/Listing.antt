@@ -1,5 +1,5 @@
 -- The rows of a bag in order.
-use Rattle.std.specs.Prelude.{◌≡◌, ◌⊎◌, ℕ, ◌≤◌, List, [], ◌∷◌, ◌++◌, map, drop, false, Option, Some, None, Result, Ok, Err, IfErr, codes, pos}
+use Rattle.std.specs.Prelude.{◌≡◌, ◌⊎◌, ℕ, ◌≤◌, List, [], ◌∷◌, ◌++◌, map, drop, Bool, true, false, Option, Some, None, Result, Ok, Err, IfErr, codes, pos}
 use Rattle.std.specs.List.{AllByRecursion, FoldsTo}
 use Rattle.std.specs.List.Sorted.{IsStrictlySortedBy}
 use Rattle.std.specs.Ordering.{nat_cmp, ordering_then}
@@ -12,6 +12,7 @@ use Rattle.sqlite_value.specs.Order.{Row, column}
 use Rattle.sqlite.specs.State.{State, HasCleanDisk, IsUnchanged, Survives}
 use Rattle.sqlite.specs.Held.{Held, state}
 use Rattle.sqlite.specs.Given.{HasGiven}
+use Rattle.gtid.specs.Identifier.{Ids}
 use Rattle.gather.specs.Image.{HasImage, image}
 use Rattle.store.specs.declared.fault.StoreFault.TheVariants.{Database}
 use Rattle.store.specs.declared.listing.Listed.{Listed}
@@ -163,3 +164,12 @@ pub record ListsHeld {V F : Type 0} (gives : V → Entry → Result (Unit {0}) F
   pub shut : HasCleanDisk new → old.is_open ≡ false → IsShut new visitor after r
   pub fault : IfErr r IsListFault
   pub autocommit : old.in_transaction ≡ false → new.in_transaction ≡ false
+
+-- The executed set and the filter of a content were given to a lister: it has asked for the rows, and they were handed to it; or it
+-- has not, and nothing more was; or it has answered an error. `begun v ids names asks w`: the lister v accepts a set and a filter, asks
+-- for rows or not, and is w afterwards; `gives` says of rows what it answers and what it is afterwards.
+abbrev pub IsListed : {V E : Type 0} → (V → Ids → Names → Bool → V → Type 0) → (V → Entry → Result (Unit {0}) E → V → Type 0)
+    → Names → Content → V → V → Result (Unit {0}) (ListError E) → Type 0
+IsListed {V} {E} begun gives names content old new listed =
+    ((mid : V) × begun old content.executed names true mid × Hands gives content.rows mid new listed)
+    ⊎ ((begun old content.executed names false new × (listed ≡ Ok tt)) ⊎ ((cause : E) × (listed ≡ Err (VisitorError cause))))

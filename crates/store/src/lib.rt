@@ -42,5 +42,5 @@ mod table;
 
 pub use damage::Damage;
 pub use fault::{Applied, StoreFault};
-pub use listing::{ListError, Listed, Visitor};
+pub use listing::{ListError, Listed, Lister, Visitor};
 pub use store::Store;

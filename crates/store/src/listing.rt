@@ -1,9 +1,10 @@
 //! Listing the rows of a store in order.
 
-ghost use Rattle.std.specs.Prelude.{◌≡◌, ℕ, pos, false, IsTrue, None, Ok, Err, Result, IfErr, MatchOption, [], drop};
+ghost use Rattle.std.specs.Prelude.{◌≡◌, ℕ, pos, Bool, false, IsTrue, None, Ok, Err, Result, IfOk, IfErr, MatchOption, [], drop};
 ghost use Rattle.sqlite.specs.State.{HasCleanDisk};
 ghost use Rattle.sqlite.specs.Held.{state};
 ghost use Rattle.sqlite.specs.Given.{HasGiven};
+ghost use Rattle.gtid.specs.Identifier.{Ids};
 ghost use Rattle.gather.specs.Image.{HasImage};
 ghost use Rattle.sqlite_value.specs.Order.{column};
 ghost use Rattle.sqlite_value.specs.declared.value.Value.TheVariants.{Int};
@@ -19,7 +20,9 @@ ghost use Rattle.store.specs.declared.fault.StoreFault.TheVariants.{Broken};
 use crate::fault::StoreFault;
 use crate::store::Store;
 use crate::table::held::RowKey;
+use binlog::Follow;
 use gather::ImageRef;
+use gtid::GtidSet;
 use sqlite::types::ValueRef;
 use sqlite::{Alter, Connection, Error, ErrorCode, Row, Rows};
 
@@ -44,6 +47,16 @@ pub trait Visitor {
     /// Accepts a row. An error ends the list.
     fn row(&mut self, row: &Listed<'_>) -> Result<(), Self::Error>
         ensures { row_gives self.old (entry_of row.now) result self.new };
+}
+
+/// What a database is read by: it is given the executed set and the filter, and then the rows, if it asks for them.
+pub trait Lister: Visitor {
+    // Where it accepts a set and a filter: whether it asks for the rows, and what it is afterwards.
+    ghost begun: { Self → Ids → Names → Bool → Self → Type 0 };
+
+    /// Accepts the executed set and the filter. Returns whether it asks for the rows. An error ends the list.
+    fn begin(&mut self, executed: &GtidSet, following: &Follow) -> Result<bool, Self::Error>
+        ensures { IfOk result (λ asks. begun self.old executed.now following.now asks self.new) };
 }
 
 /// Why a list was not read to its end.

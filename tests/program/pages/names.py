@@ -12,13 +12,15 @@
   column clauses of theirs.
 - A table `File` | `Lines`: the file has about so many lines.
 
-And that a word of `specs/` is defined in one file alone, so that it means one thing.
+And that a word of `specs/` and a type of `src/` is defined in one file alone, so that it means one thing.
 """
 import glob, os, re, sys
 
 root = os.path.abspath(sys.argv[1])
-CRATES = ['wire', 'greet', 'gtid', 'binlog', 'gather', 'columns', 'store', 'scripted_source', 'replica', 'first_copy', 'files', 'formats', 'payloads', 'metrics', 'typed_rows', 'command_line', 'reports', 'mrep']
+CRATES = ['wire', 'greet', 'gtid', 'binlog', 'gather', 'columns', 'store', 'scripted_source', 'replica', 'formats', 'rows', 'first_copy', 'files', 'feed', 'export', 'messages', 'watch', 'command_line', 'mrep']
 TOP = ('crates/', 'docs/', 'tests/', 'bench/', 'samples/', 'proxy/', 'sinks/', 'specs/', 'src/', 'proofs/', 'must-fail/', '.ci/')
+# Types that two files still define: of the crates up to `store`, and of `columns`.
+SHARED = {'ColumnType', 'Entry', 'Place', 'Refusal', 'Shape', 'State'}
 bad = []
 
 
@@ -186,7 +188,18 @@ def twice():
         if len(places) > 1: yield f'{word} is defined in ' + ' and in '.join(sorted(places))
 
 
+def types_twice():
+    """Types that two files of `src/` define, so that one name means two things."""
+    files = {}
+    for path in glob.glob(f'{root}/crates/*/src/**/*.rt', recursive=True):
+        for name in re.findall(r'^(?:pub(?:\(crate\))? )?(?:struct|enum|trait) (\w+)', read(path), re.M):
+            files.setdefault(name, set()).add(os.path.relpath(path, root))
+    for name, places in sorted(files.items()):
+        if len(places) > 1 and name not in SHARED: yield f'the type {name} is defined in ' + ' and in '.join(sorted(places))
+
+
 bad += twice()
+bad += types_twice()
 pages = [path for pattern in ('*.md', 'docs/*.md', 'crates/*/README.md', 'samples/*.md', 'bench/*.md', 'proxy/*.md')
          for path in sorted(glob.glob(f'{root}/{pattern}'))]
 for page in pages:

@@ -15,21 +15,20 @@ import sys
 root = os.path.abspath(sys.argv[1])
 # The functions that have a `HostRuntime`, and what each gives it to.
 FUNCTIONS = {
-    'crates/replica/src/changed_file.rt': {'change_file': ['open_file']},
-    'crates/replica/src/adopted_file.rt': {'adopt_file': ['open_file']},
-    'crates/replica/src/cleared_file.rt': {'clear_file': ['open_file']},
-    'crates/replica/src/listed_file.rt': {'list_file': ['open_file']},
+    'crates/replica/src/file/changed.rt': {'change_file': ['open_file']},
+    'crates/replica/src/file/cleared.rt': {'clear_file': ['open_file']},
     'crates/replica/src/file.rt': {'open_file': ['RandomState::new', 'open_pair', 'connect_to']},
-    'crates/replica/src/file_connection.rt': {
+    'crates/replica/src/file/connection.rt': {
         # It reads how long the file is and the size of its pages.
         'sizes': ['fs::open'],
         'options': ['sizes'],
         'connect_to': ['options'],
     },
-    'crates/replica/src/file_pair.rt': {'open_pair': ['sqlite_std_file::open']},
-    'crates/replica/src/followed_file.rt': {'follow_file': ['open_file']},
-    'crates/replica/src/loaded_file.rt': {'load_file': ['open_file']},
-    'crates/replica/src/replaying.rt': {'replay': ['open_file']},
+    'crates/replica/src/file/pair.rt': {'open_pair': ['sqlite_std_file::open']},
+    'crates/replica/src/file/followed.rt': {'follow_file': ['open_file']},
+    'crates/replica/src/file/loaded.rt': {'load_file': ['open_file']},
+    'crates/replica/src/file/replaying.rt': {'replay': ['open_file']},
+    'crates/replica/src/file/work.rt': {'in_file': ['open_file']},
 }
 # Ways to the system that need no `HostRuntime` in a line of their own.
 WAYS = r'\b(?:fs|env|process|net|os|thread|libc)::\w+|\bextern\b|\bunsafe\b|\bsqlite_std_file::open\w*'

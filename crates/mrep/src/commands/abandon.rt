@@ -12,8 +12,9 @@ use clap::ArgMatches;
 use command_line::parse_table;
 use gtid::{Gtid, GtidSet};
 use replica::{ChangedFile, ended_mark, given_up_mark, unfinished_copy};
-use reports::{ExecutedSet, Watch};
+use rows::ExecutedSet;
 use std::io::Write;
+use watch::Watch;
 
 const FINISHED: &str = "no first copy of tables is unfinished";
 

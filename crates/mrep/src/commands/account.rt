@@ -1,7 +1,7 @@
 //! Where a source is and as whom it is followed: what arguments say, else an option file of MySQL's clients, else the
 //! environment.
 
-use crate::report::failure::{Failure, Kind, named, of_system, over_argument, over_file};
+use crate::report::failure::{Failure, FailureKind, named, of_system, over_argument, over_file};
 use clap::ArgMatches;
 use command_line::{option_of, parse_number};
 use files::{INPUT, is_there, others_may_read, read_password};
@@ -33,7 +33,7 @@ pub struct Options {
 
 /// Where a source is.
 #[derive(Drop)]
-pub struct Place {
+pub struct Address {
     pub host: String,
     pub port: u16,
 }
@@ -105,28 +105,28 @@ fn setting(
 
 /// The failure of a setting that nothing gives.
 fn missing(alloc: Global, option: &str, why: &str) -> Failure {
-    named(alloc, Kind::Usage, option, &why)
+    named(alloc, FailureKind::Usage, option, &why)
 }
 
-impl Place {
+impl Address {
     /// The host and the port.
     pub fn of(
         rt: &HostRuntime,
         given: &ArgMatches<'_>,
         options: &Options,
-    ) -> Result<Place, Failure> {
+    ) -> Result<Address, Failure> {
         let port = port_of(rt, given, options)?;
         match setting(rt, given, options, "host", "MYSQL_HOST")? {
-            Some(host) => Place::with(rt.alloc(), host, port),
+            Some(host) => Address::with(rt.alloc(), host, port),
             None => Err(missing(rt.alloc(), "--host", NO_HOST)),
         }
     }
 
     /// A host whose name has no port in it.
-    fn with(alloc: Global, host: String, port: u16) -> Result<Place, Failure> {
+    fn with(alloc: Global, host: String, port: u16) -> Result<Address, Failure> {
         match port_in(host.as_str()) {
             Some(inner) => Err(port_apart(alloc, host.as_str(), inner)),
-            None => Ok(Place { host, port }),
+            None => Ok(Address { host, port }),
         }
     }
 }
@@ -143,7 +143,7 @@ fn port_in(host: &str) -> Option<&str> {
 /// The failure of a host that is given with its port.
 fn port_apart(alloc: Global, host: &str, port: &str) -> Failure {
     match format!(in alloc; "the port is given apart: --port {port}") {
-        Ok(why) => named(alloc, Kind::Usage, host, &why.as_str()),
+        Ok(why) => named(alloc, FailureKind::Usage, host, &why.as_str()),
         Err(_) => Failure::Memory,
     }
 }

@@ -12,12 +12,12 @@ use command_line::{parse_gtid, parse_set, parse_table, word};
 use formats::write_table;
 use gtid::{Gtid, GtidSet};
 use replica::{ClearEnd, ClearedFile, Observer, Reason, clear_file};
-use reports::Watch;
 use sqlite::File;
 use sqlite_disk::Unknown;
 use std::alloc::Global;
 use std::io::Write;
 use store::StoreFault;
+use watch::Watch;
 
 const OTHER_SET: &str =
     "it has not executed just the set of --at, and besides it copies alone, so that rows from before the statement would come back, or later ones go: follow --until exactly what the source had executed before it, or give that set";

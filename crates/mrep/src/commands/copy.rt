@@ -1,18 +1,18 @@
 //! `mrep copy`: a copy of a database, made at any moment, also while another process writes it.
 //!
-//! The database is not opened and not locked, and nothing is written to it. [`files::Part`] copies its files.
+//! The database is not opened and not locked, and nothing is written to it. [`files::CopyPart`] copies its files.
 //! The copy is opened, and so tested, as any file is, and closed, which leaves one file; only then it gets its name.
 //! `mrep export` makes its file in the same way, with another content.
 
 ghost use Rattle.std.specs.Prelude.{◌≡◌, IfOk};
 
-use crate::commands::export::fill_tables;
+use crate::commands::export_command::fill_tables;
 use crate::database::open::{lock, test};
 use crate::report::failure::{DONE, Failure, of_system, over_file, unusable};
 use clap::ArgMatches;
 use command_line::word;
-use files::{Names, Part, is_there, keep_one_name, lock_alone, make_part};
-use typed_rows::Export;
+use export::Export;
+use files::{CopyPart, FileNames, is_there, keep_one_name, lock_alone, make_part};
 
 const TOO_FAST: &str = "no whole copy could be made, since its WAL file was begun anew each time";
 
@@ -65,10 +65,10 @@ pub fn make_file(
 }
 
 /// The names of a database that can be copied to its target, as far as that is known before.
-fn checked(rt: &HostRuntime, target: Target<'_>) -> Result<Names, Failure> {
+fn checked(rt: &HostRuntime, target: Target<'_>) -> Result<FileNames, Failure> {
     let Target { db, to, force } = target;
     let alloc = rt.alloc();
-    let from = over_file(alloc, db, Names::of(rt, db))?;
+    let from = over_file(alloc, db, FileNames::of(rt, db))?;
     over_file(alloc, db, from.check(rt))?;
     over_file(alloc, to, from.check_target(rt, to, force))?;
     keep_one_name(rt, to)?;
@@ -79,7 +79,7 @@ fn checked(rt: &HostRuntime, target: Target<'_>) -> Result<Names, Failure> {
 fn replace(
     rt: &HostRuntime,
     target: Target<'_>,
-    from: &Names,
+    from: &FileNames,
     export: Option<Export>,
 ) -> Result<Vec<u8>, Failure> {
     let name_lock = over_file(rt.alloc(), target.to, lock_alone(rt, target.to))?;
@@ -94,7 +94,7 @@ fn replace(
 fn make_beside(
     rt: &HostRuntime,
     target: Target<'_>,
-    from: &Names,
+    from: &FileNames,
     replaces: bool,
     export: Option<Export>,
 ) -> Result<Vec<u8>, Failure> {
@@ -112,8 +112,8 @@ fn make_beside(
 fn make(
     rt: &HostRuntime,
     target: Target<'_>,
-    from: &Names,
-    part: &Part,
+    from: &FileNames,
+    part: &CopyPart,
     replaces: bool,
     export: Option<Export>,
 ) -> Result<Vec<u8>, Failure> {
@@ -134,8 +134,8 @@ fn make(
 pub fn fill(
     rt: &HostRuntime,
     target: Target<'_>,
-    from: &Names,
-    part: &Part,
+    from: &FileNames,
+    part: &CopyPart,
 ) -> Result<(), Failure> {
     let Target { db, to, .. } = target;
     if let Err(cause) = from.try_read(rt) {

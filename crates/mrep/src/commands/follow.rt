@@ -2,10 +2,10 @@
 
 ghost use Rattle.std.specs.Prelude.{◌≤◌, ⊤, IfOk};
 
-use crate::commands::account::{Options, Place, password_of, secret_of, user_of, warn};
+use crate::commands::account::{Address, Options, password_of, secret_of, user_of, warn};
 use crate::database::open::{closed, opened, opening};
 use crate::report::failure::{
-    Failure, Kind, MEMORY, named, of_system, over_argument, write_failure,
+    Failure, FailureKind, MEMORY, named, of_system, over_argument, write_failure,
 };
 use crate::report::status::{counted, status_after};
 use crate::report::wanted::{Wanted, waited};
@@ -18,12 +18,12 @@ use replica::{
     Config, ConfigFault, Connect, Ended, FollowedFile, Observer, Reason, Until, follow_file,
     unfinished_copy,
 };
-use reports::{Pulse, Reports, Socket, Watch};
 use sqlite_disk::Unknown;
 use std::alloc::Global;
 use std::io;
 use std::io::{ErrorKind, Write};
 use std::net::TcpStream;
+use watch::{Pulse, Reports, Socket, Watch};
 use wire::LARGEST_PAYLOAD;
 
 /// Why no connection has begun, as the status says it.
@@ -51,7 +51,7 @@ pub fn follow<W: Write, E: Write>(
     ensures { IfOk result (λ status. status ≤ MEMORY) }
 {
     let options = Options::of(rt, given)?;
-    let place = Place::of(rt, given, &options)?;
+    let place = Address::of(rt, given, &options)?;
     follow_place(rt, given, &options, &place, out, err)
 }
 
@@ -60,7 +60,7 @@ fn follow_place<W: Write, E: Write>(
     rt: &HostRuntime,
     given: &ArgMatches<'_>,
     options: &Options,
-    place: &Place,
+    place: &Address,
     out: &mut W,
     err: &mut E,
 ) -> Result<u8, Failure>
@@ -219,7 +219,7 @@ fn settings(
     ) {
         Ok(config) => Ok(config),
         Err(ConfigFault::Memory) => Err(Failure::Memory),
-        Err(cause) => Err(named(rt.alloc(), Kind::Usage, user.as_str(), &cause)),
+        Err(cause) => Err(named(rt.alloc(), FailureKind::Usage, user.as_str(), &cause)),
     }
 }
 

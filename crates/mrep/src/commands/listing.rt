@@ -2,9 +2,10 @@
 
 ghost use Rattle.std.specs.Prelude.{◌≤◌, IfOk};
 
+use crate::payloads::lines::{Lines, ListFault, list_piece};
+use crate::payloads::listing::Listing;
 use crate::report::failure::{DONE, Failure, REFUSED, of_system};
 use files::Input;
-use payloads::{Lines, ListFault, Listing, list_piece};
 use replica::{PIECE, read_some};
 use std::alloc::Global;
 use std::io::{Read, Write};

@@ -12,14 +12,13 @@ use crate::report::wanted::Wanted;
 use clap::ArgMatches;
 use first_copy::{RowsFault, Summary};
 use formats::Shown;
-use replica::{
-    ChangeEnd, Deliveries, Ended, FirstCopy, LoadEnd, LoadedFile, Observer, Reason, load_file,
-};
-use reports::{Pulse, Watch};
+use gather::Deliveries;
+use replica::{ChangeEnd, Ended, FirstCopy, LoadEnd, LoadedFile, Observer, Reason, load_file};
 use sqlite::File;
 use sqlite_disk::Unknown;
 use std::alloc::Global;
 use std::io::Write;
+use watch::{Pulse, Watch};
 
 const CHANGED: &str =
     "it was changed while it was loaded: clear its tables, and load a copy that stays as it is";

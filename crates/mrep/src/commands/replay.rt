@@ -12,12 +12,12 @@ use files::{Input, is_log_file};
 use formats::Shown;
 use gtid::GtidSet;
 use replica::{Capture, Config, Halt, Observer, Replayed, Until, read_some};
-use reports::Watch;
 use sqlite::File;
 use sqlite_disk::Unknown;
 use std::alloc::Global;
 use std::io;
 use std::io::Write;
+use watch::Watch;
 use wire::LARGEST_PAYLOAD;
 
 /// The server id of the replica. It is never sent: a replay sends nothing.
@@ -77,7 +77,7 @@ fn replay_reported<W: Write, E: Write>(
     err: &mut E,
 ) -> Result<(Replayed<File>, Result<(), Failure>), Failure> {
     note_log_files(rt, names, err);
-    let reading = Reading::of(rt, wanted, names)?;
+    let reading = Replaying::of(rt, wanted, names)?;
     let (pulse, reports) = wanted.reports(rt, reading.total, names, err)?;
     let watch = Watch::new(wanted.source(rt, names, 0), &pulse, reports, out, err);
     replay_watched(rt, wanted, reading, watch)
@@ -96,7 +96,7 @@ fn note_log_files<E: Write>(rt: &HostRuntime, names: &[&str], err: &mut E) {
 fn replay_watched<W: Write, E: Write>(
     rt: &HostRuntime,
     wanted: &Wanted<'_, '_>,
-    reading: Reading,
+    reading: Replaying,
     watch: Watch<'_, W, E>,
 ) -> Result<(Replayed<File>, Result<(), Failure>), Failure> {
     let (done, watch) = reading.replay_until(rt, wanted.db, watch);
@@ -110,7 +110,7 @@ fn replay_watched<W: Write, E: Write>(
 
 /// What is read: the tables whose rows are kept, the settings, the streams, and the set that is waited for, if there is one.
 #[derive(Drop)]
-struct Reading {
+struct Replaying {
     only: Option<Follow>,
     config: Config,
     captures: Vec<Capture<Input>>,
@@ -119,16 +119,16 @@ struct Reading {
     until: Option<GtidSet>,
 }
 
-impl Reading {
+impl Replaying {
     /// Opens the streams, and reads a byte of each.
-    fn of(rt: &HostRuntime, wanted: &Wanted<'_, '_>, names: &[&str]) -> Result<Reading, Failure> {
+    fn of(rt: &HostRuntime, wanted: &Wanted<'_, '_>, names: &[&str]) -> Result<Replaying, Failure> {
         let until = wanted.until(rt.alloc())?;
         let only = wanted.filter(rt.alloc())?;
         let (captures, total) = open_streams(rt, names)?;
         let Ok(config) = Config::new(rt.alloc(), b"", b"", SERVER_ID, false, LARGEST_PAYLOAD) else {
             return Err(Failure::Memory);
         };
-        Ok(Reading {
+        Ok(Replaying {
             only,
             config,
             captures,
@@ -145,7 +145,7 @@ impl Reading {
         db: &str,
         mut observer: W,
     ) -> (Result<(Replayed<File>, bool), Failure>, W) {
-        let Reading {
+        let Replaying {
             only,
             config,
             captures,

@@ -7,9 +7,11 @@ use crate::report::failure::{DONE, Failure, of_tables, over_argument};
 use binlog::Follow;
 use clap::ArgMatches;
 use command_line::{parse_tables, word};
+use export::{TablesFault, check_named, check_texts};
+use first_copy::write_select;
+use rows::DescribedTables;
 use std::alloc::Global;
 use std::io::Write;
-use typed_rows::{DescribedTables, TablesFault, write_select};
 
 /// Prints the statements for the tables that are named, or for all that are described if none is.
 pub fn select<W: Write>(
@@ -46,7 +48,7 @@ fn print<W: Write>(
 
 /// Keeps these of the described tables, or all if none is named. The client has to print them as they are.
 fn keep(alloc: Global, described: &mut DescribedTables, only: &Follow) -> Result<(), TablesFault> {
-    described.check(alloc, only)?;
+    check_named(alloc, described, only)?;
     described.keep(only, None);
-    described.check_texts(alloc)
+    check_texts(alloc, described)
 }

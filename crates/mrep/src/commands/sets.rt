@@ -9,8 +9,9 @@ use clap::ArgMatches;
 use command_line::{parse_set, word};
 use formats::text_of;
 use gtid::GtidSet;
-use replica::{AdoptFault, AdoptedFile, adopt_file};
-use reports::{ExecutedSet, MissingSet, UNFINISHED};
+use messages::UNFINISHED;
+use replica::{AdoptFault, Adopting, InFile, in_file};
+use rows::{ExecutedSet, MissingSet};
 use sqlite_disk::Unknown;
 use std::alloc::Global;
 use std::io::Write;
@@ -59,9 +60,9 @@ fn asked(alloc: Global, given: &ArgMatches<'_>) -> Result<GtidSet, Failure> {
 /// Adds a set to the executed set of the database in a file, which is opened with its own filter. Returns what was new of it.
 fn adopt_in(rt: &HostRuntime, db: &str, asked: &GtidSet) -> Result<GtidSet, Failure> {
     let opening = opening(rt, db)?;
-    let done = adopt_file(rt, db, Unknown, asked);
-    let AdoptedFile {
-        added,
+    let done = in_file(rt, db, Unknown, 0, None, &mut Adopting { gtids: asked });
+    let InFile {
+        done: added,
         closed: files,
     } = opened(rt, db, opening, done)?;
     let files = closed(rt.alloc(), db, files);

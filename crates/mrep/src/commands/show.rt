@@ -5,10 +5,10 @@ use crate::database::printer::{Selection, print_rows, print_tallies};
 use crate::report::failure::{Failure, of_argument, over_argument};
 use clap::ArgMatches;
 use command_line::{ArgumentFault, parse_encoding, parse_tables, word};
-use formats::{Chosen, Format, format_of};
+use formats::{Format, format_of};
+use rows::{Chosen, DescribedTables};
 use std::fs;
 use std::io::Write;
-use typed_rows::DescribedTables;
 
 /// Prints the filter, and a line for each table with rows.
 pub fn tables<W: Write>(

@@ -10,17 +10,18 @@ use crate::report::failure::{
 };
 use clap::ArgMatches;
 use command_line::{parse_gtid, word};
+use feed::SkipFeed;
 use gather::{Changes, Delivery};
 use gtid::{Gtid, GtidSet};
+use messages::UNFINISHED;
 use replica::{ChangeEnd, ChangedFile, Observer, change_file, is_mark};
-use reports::{SkipStop, SkipWatch, UNFINISHED};
 use sqlite::File;
 use sqlite_disk::Unknown;
 use std::alloc::{AllocError, Global};
 use std::collections::VecDeque;
 use std::convert::Infallible;
 use std::io::Write;
-use typed_rows::SkipFeed;
+use watch::{SkipStop, SkipWatch};
 
 const MARK: &str = "it says how far a first copy has come, and load or abandon records it";
 

@@ -10,10 +10,11 @@ use crate::report::failure::{DONE, Failure, MEMORY, REFUSED, of_system, of_table
 use binlog::Follow;
 use clap::ArgMatches;
 use command_line::{parse_tables, word};
+use export::check_named;
 use files::Input;
-use formats::{Chosen, Encoding, Format, compare};
+use formats::{Encoding, Format};
+use rows::{Chosen, DescribedTables, compare};
 use std::io::{Read, Write};
-use typed_rows::DescribedTables;
 
 /// Prints the rows that one side lacks: `<` before those that the file has alone, `>` before those that the database has
 /// alone. The status is 0 if there are none, and 1 otherwise.
@@ -42,7 +43,7 @@ pub fn verify<W: Write, E: Write>(
 /// The tables whose description a file has. These must be among them.
 fn described(rt: &HostRuntime, name: &str, only: &Follow) -> Result<DescribedTables, Failure> {
     let described = read_tables(rt, name)?;
-    match described.check(rt.alloc(), only) {
+    match check_named(rt.alloc(), &described, only) {
         Ok(()) => Ok(described),
         Err(fault) => Err(of_tables(rt.alloc(), name, &fault)),
     }

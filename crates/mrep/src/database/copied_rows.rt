@@ -7,10 +7,10 @@ use columns::Description;
 use command_line::{parse_digest, word};
 use files::{INPUT, Input, KeptInput};
 use first_copy::{CopiedRows, CopyFault, Summary, text_digest};
-use reports::{Metered, Pulse};
 use std::alloc::Global;
 use std::io;
 use std::io::{BufReader, Read};
+use watch::{Metered, Pulse};
 
 /// How many bytes are read at a time for the SHA-1.
 const PIECE: usize = 1 << 16;

@@ -2,8 +2,8 @@
 
 use crate::report::failure::{Failure, of_description, of_system};
 use columns::Description;
+use rows::DescribedTables;
 use std::fs;
-use typed_rows::DescribedTables;
 
 /// The tables whose description a file has.
 pub fn read_tables(rt: &HostRuntime, name: &str) -> Result<DescribedTables, Failure> {

@@ -3,20 +3,21 @@
 use crate::database::open::{listed, unopened_copy};
 use crate::report::failure::{Failure, of_database, of_misfit};
 use binlog::Follow;
-use formats::{Chosen, Shown, text_of};
+use export::{Export, ExportTables, ExportedRows, TableError, note_left_out};
+use formats::{Shown, text_of};
 use gtid::GtidSet;
-use replica::{Lister, list_file};
+use replica::in_file;
+use rows::Chosen;
 use sqlite::{Alter, Connection, Error, ErrorCode};
 use sqlite_disk::Unknown;
 use std::alloc::{AllocError, Global};
 use std::io;
 use std::io::Write;
-use store::{Listed, StoreFault, Visitor};
-use typed_rows::{Export, ExportedRows, TableError, Tables, note_left_out};
+use store::{Listed, Lister, StoreFault, Visitor};
 
 /// A copy of a database: its path, and the names of the file that is made and of the database in failures.
 #[derive(Clone, Copy)]
-pub struct Source<'p, 'a> {
+pub struct ExportedCopy<'p, 'a> {
     pub copy: &'p str,
     pub to: &'a str,
     pub db: &'a str,
@@ -29,7 +30,7 @@ pub struct Source<'p, 'a> {
 /// named there was no row.
 pub fn export_rows(
     rt: &HostRuntime,
-    source: Source<'_, '_>,
+    source: ExportedCopy<'_, '_>,
     part: &str,
     export: Export,
 ) -> Result<Vec<u8>, Failure> {
@@ -43,11 +44,11 @@ pub fn export_rows(
 /// Makes tables of a new database in an empty file, with the rows of a copy of a database, and closes both.
 fn fill(
     rt: &HostRuntime,
-    source: Source<'_, '_>,
+    source: ExportedCopy<'_, '_>,
     part: &str,
-    tables: &Tables,
+    tables: &ExportTables,
     chosen: Chosen,
-) -> Result<Found, Failure> {
+) -> Result<Exported, Failure> {
     let mut conn = match Connection::open(rt, part) {
         Ok(conn) => conn,
         Err(cause) => return Err(of_sqlite(rt.alloc(), source.to, cause)),
@@ -63,11 +64,11 @@ fn fill(
 /// the one of a file.
 fn add_rows<T: Alter>(
     rt: &HostRuntime,
-    source: Source<'_, '_>,
-    tables: &Tables,
+    source: ExportedCopy<'_, '_>,
+    tables: &ExportTables,
     chosen: Chosen,
     conn: &mut Connection<T>,
-) -> Result<Found, Failure> {
+) -> Result<Exported, Failure> {
     let alloc = rt.alloc();
     if !conn.is_autocommit() {
         let cause = Error::SqliteFailure(ErrorCode::TransactionState);
@@ -82,9 +83,9 @@ fn add_rows<T: Alter>(
 /// Adds the rows of a copy of a database to tables that were made, and commits them.
 fn fill_tables<T: Alter>(
     rt: &HostRuntime,
-    source: Source<'_, '_>,
+    source: ExportedCopy<'_, '_>,
     rows: ExportedRows<'_, '_, T>,
-) -> Result<Found, Failure> {
+) -> Result<Exported, Failure> {
     let alloc = rt.alloc();
     let mut added = Added {
         alloc,
@@ -107,11 +108,11 @@ fn fill_tables<T: Alter>(
 /// Gives a copy of a database to what adds its rows to tables.
 fn give_rows<T: Alter>(
     rt: &HostRuntime,
-    source: Source<'_, '_>,
+    source: ExportedCopy<'_, '_>,
     added: &mut Added<'_, '_, T>,
 ) -> Result<(), Failure> {
-    let Source { copy, to, db, .. } = source;
-    let done = match list_file(rt, copy, Unknown, added) {
+    let ExportedCopy { copy, to, db, .. } = source;
+    let done = match in_file(rt, copy, Unknown, 0, None, added) {
         Ok(done) => done,
         Err(unopened) => return Err(unopened_copy(rt, copy, to, db, unopened)),
     };
@@ -123,7 +124,7 @@ fn give_rows<T: Alter>(
 
 /// What a database was found to have.
 #[derive(Drop)]
-struct Found {
+struct Exported {
     /// Of which tables there was a row.
     chosen: Chosen,
     /// Whether it has no transaction.
@@ -131,9 +132,9 @@ struct Found {
     following: Follow,
 }
 
-impl Found {
+impl Exported {
     /// Reports of which tables there was no row, and why.
-    fn note<W: Write>(&self, tables: &Tables, db: &str, out: &mut W) -> io::Result<()> {
+    fn note<W: Write>(&self, tables: &ExportTables, db: &str, out: &mut W) -> io::Result<()> {
         if self.is_empty {
             writeln!(out, "mrep: {}: it has no transaction", Shown(db))?;
         } else {
@@ -157,7 +158,7 @@ struct Added<'d, 'c, T: Alter> {
 
 impl<T: Alter> Added<'_, '_, T> {
     /// Commits what was added, with the executed set in the table of the place where there is one.
-    fn finish(self) -> Result<Found, TableError> {
+    fn finish(self) -> Result<Exported, TableError> {
         let Added {
             rows,
             has_place,
@@ -172,7 +173,7 @@ impl<T: Alter> Added<'_, '_, T> {
             rows.finish(None)
         };
         match done {
-            Ok(chosen) => Ok(Found {
+            Ok(chosen) => Ok(Exported {
                 chosen,
                 is_empty,
                 following,
@@ -203,7 +204,7 @@ impl<T: Alter> Visitor for Added<'_, '_, T> {
     ghost row_gives = { λ _ _ _ _. Unit {0} };
 
     fn row(&mut self, row: &Listed<'_>) -> Result<(), TableError> {
-        self.rows.row(row.schema, row.table, row.count, &row.image)
+        self.rows.row(row)
     }
 }
 

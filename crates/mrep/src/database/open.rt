@@ -2,7 +2,7 @@
 
 use crate::report::failure::{Failure, of_damage, of_database, of_file, over_file, unusable};
 use files::{LOCKED, Opening, is_file, missing_wal, opening_fault, reading_fault, remove_unused};
-use replica::{ListedFile, Unopened, close_file, open_file};
+use replica::{InFile, Unopened, close_file, open_file};
 use sqlite::{Alter, Connection, Error, ErrorCode, File, FileStore, Files};
 use sqlite_disk::Unknown;
 use sqlite_std_file::OpenError;
@@ -16,7 +16,7 @@ const JOURNAL: &str = "sqlite3 has left a journal beside it: open it once with s
 
 /// A database file: its path, and its names in failures.
 #[derive(Clone, Copy)]
-struct Place<'p, 'a> {
+struct DatabaseNames<'p, 'a> {
     path: &'p str,
     /// The name where the file cannot be used.
     file: &'a str,
@@ -24,10 +24,10 @@ struct Place<'p, 'a> {
     content: &'a str,
 }
 
-impl<'a> Place<'a, 'a> {
+impl<'a> DatabaseNames<'a, 'a> {
     /// A file that is given by this name.
-    fn named(name: &'a str) -> Place<'a, 'a> {
-        Place {
+    fn named(name: &'a str) -> DatabaseNames<'a, 'a> {
+        DatabaseNames {
             path: name,
             file: name,
             content: name,
@@ -41,13 +41,13 @@ pub fn listed<E: Drop>(
     alloc: Global,
     db: &str,
     file: &str,
-    done: ListedFile<E, File>,
+    made: InFile<Result<(), ListError<E>>, File>,
 ) -> Result<Result<(), E>, Failure> {
-    let ListedFile {
-        listed,
+    let InFile {
+        done,
         closed: files,
-    } = done;
-    let listed = match listed {
+    } = made;
+    let listed = match done {
         Ok(()) => Ok(()),
         Err(ListError::Store(cause)) => Err(of_database(alloc, db, cause)),
         Err(ListError::Visitor(error)) => {
@@ -76,7 +76,7 @@ pub fn unopened_copy<'a>(
     db: &'a str,
     unopened: Unopened<File>,
 ) -> Failure {
-    let place = Place {
+    let place = DatabaseNames {
         path: copy,
         file: to,
         content: db,
@@ -102,7 +102,7 @@ pub fn opened<T>(
         Err(unopened) => unopened,
     };
     let Opening { lock, wal } = opening;
-    let failure = refusal(rt, Place::named(name), leave(rt, wal, unopened));
+    let failure = refusal(rt, DatabaseNames::named(name), leave(rt, wal, unopened));
     lock.discard(rt, name);
     Err(failure)
 }
@@ -174,9 +174,9 @@ fn cause_in<S: Alter>(alloc: Global, fault: StoreFault, conn: &mut Connection<S>
 }
 
 /// The failure of a database file that could not be opened.
-fn refusal(rt: &HostRuntime, place: Place<'_, '_>, cause: Cause) -> Failure {
+fn refusal(rt: &HostRuntime, place: DatabaseNames<'_, '_>, cause: Cause) -> Failure {
     let alloc = rt.alloc();
-    let Place {
+    let DatabaseNames {
         path,
         file,
         content,

@@ -3,15 +3,17 @@
 use crate::database::reading::list_in;
 use crate::report::failure::{Failure, of_row};
 use binlog::Follow;
-use formats::{Chosen, Encoding, Facts, Format, Records, Tallies, write_object};
+use formats::{Encoding, Format};
 use gtid::{Gtid, GtidSet};
-use replica::{Lister, unfinished_copy};
-use reports::TextRows;
+use replica::unfinished_copy;
+use rows::{
+    Chosen, DescribedTables, Facts, Layout, Records, RowError, Tallies, TextRows, TypedRows,
+    write_object,
+};
 use std::alloc::Global;
 use std::io;
 use std::io::Write;
-use store::{Listed, Visitor};
-use typed_rows::{DescribedTables, Layout, RowError, TypedRows};
+use store::{Listed, Lister, Visitor};
 
 /// Which rows are printed, and how.
 #[derive(Drop)]
@@ -97,7 +99,7 @@ pub fn print_tallies<W: Write>(
     sizes: Option<[u64; 2]>,
     out: &mut W,
 ) -> Result<(), Failure> {
-    let mut counts = Counts {
+    let mut counts = TableCounts {
         sizes,
         tallies: Tallies::new(rt.alloc(), format, out),
     };
@@ -156,8 +158,7 @@ impl<W: Write> Visitor for Typed<'_, W> {
         if !self.chosen.takes(row.schema, row.table) {
             return Ok(());
         }
-        self.rows
-            .write(row.schema, row.table, row.count, &row.image)
+        self.rows.write(row)
     }
 }
 
@@ -197,15 +198,7 @@ impl<W: Write> Visitor for Objects<'_, W> {
         if !self.selection.chosen.takes(row.schema, row.table) {
             return Ok(());
         }
-        write_object(
-            self.alloc,
-            row.schema,
-            row.table,
-            row.count,
-            &row.image,
-            self.selection.encoding,
-            self.out,
-        )
+        write_object(self.alloc, row, self.selection.encoding, self.out)
     }
 }
 
@@ -234,14 +227,7 @@ impl<W: Write> Visitor for CsvRows<'_, W> {
         if !self.selection.chosen.takes(row.schema, row.table) {
             return Ok(());
         }
-        self.records.write(
-            self.alloc,
-            row.schema,
-            row.table,
-            row.count,
-            &row.image,
-            self.selection.encoding,
-        )
+        self.records.write(self.alloc, row, self.selection.encoding)
     }
 }
 
@@ -255,13 +241,13 @@ impl<W: Write> Lister for CsvRows<'_, W> {
 
 /// Counts the rows of each table.
 #[derive(Drop)]
-struct Counts<'o, W> {
+struct TableCounts<'o, W> {
     /// The sizes of the database's files, where more than its tables is asked for.
     sizes: Option<[u64; 2]>,
     tallies: Tallies<'o, W>,
 }
 
-impl<W: Write> Visitor for Counts<'_, W> {
+impl<W: Write> Visitor for TableCounts<'_, W> {
     type Error = io::Error;
 
     ghost row_gives = { λ _ _ _ _. Unit {0} };
@@ -271,7 +257,7 @@ impl<W: Write> Visitor for Counts<'_, W> {
     }
 }
 
-impl<W: Write> Lister for Counts<'_, W> {
+impl<W: Write> Lister for TableCounts<'_, W> {
     ghost begun = { λ _ _ _ _ _. Unit {0} };
 
     fn begin(&mut self, executed: &GtidSet, following: &Follow) -> io::Result<bool> {

@@ -7,12 +7,13 @@ use crate::commands::copy::{Target, fill};
 use crate::database::open::{listed, opened, opening, unopened_copy};
 use crate::report::failure::{Failure, over_file, unusable};
 use binlog::Follow;
-use files::{FileFault, Found, Names, Owner, Part, make_part, owner_of};
+use files::{CopyPart, FileFault, FileNames, Found, Owner, make_part, owner_of};
 use gtid::GtidSet;
-use replica::{ListedFile, Lister, Unopened, list_file};
+use replica::{InFile, Unopened, in_file};
 use sqlite::{Connection, Error, ErrorCode, File};
 use sqlite_disk::Unknown;
 use std::alloc::Global;
+use store::Lister;
 
 /// How many processes may read copies of one database at a time.
 const READERS: u32 = 64;
@@ -53,7 +54,7 @@ fn list_database<L: Lister>(
     lister: &mut L,
 ) -> Result<Result<(), L::Error>, Failure> {
     let opening = opening(rt, name)?;
-    let done = list_file(rt, name, Unknown, lister);
+    let done = in_file(rt, name, Unknown, 0, None, lister);
     let is_open = is_open_elsewhere(&done);
     match opened(rt, name, opening, done) {
         Ok(done) => listed(rt.alloc(), name, name, done),
@@ -63,7 +64,7 @@ fn list_database<L: Lister>(
 }
 
 /// Whether a database was not opened since another process has it open.
-fn is_open_elsewhere<E: Drop>(done: &Result<ListedFile<E, File>, Unopened<File>>) -> bool {
+fn is_open_elsewhere<T: Drop>(done: &Result<InFile<T, File>, Unopened<File>>) -> bool {
     match done {
         Err(Unopened::NotOpened(why)) => {
             matches!(why.cause, Error::SqliteFailure(ErrorCode::DatabaseBusy))
@@ -78,7 +79,7 @@ fn list_copy<L: Lister>(
     name: &str,
     lister: &mut L,
 ) -> Result<Result<(), L::Error>, Failure> {
-    let from = over_file(rt.alloc(), name, Names::of(rt, name))?;
+    let from = over_file(rt.alloc(), name, FileNames::of(rt, name))?;
     over_file(rt.alloc(), name, from.check(rt))?;
     let part = reading_part(rt, &from, name)?;
     let done = list_part(rt, name, &from, &part, lister);
@@ -87,7 +88,7 @@ fn list_copy<L: Lister>(
 }
 
 /// The file of a copy that no other process reads.
-fn reading_part(rt: &HostRuntime, from: &Names, name: &str) -> Result<Part, Failure> {
+fn reading_part(rt: &HostRuntime, from: &FileNames, name: &str) -> Result<CopyPart, Failure> {
     for reader in 1..=READERS {
         let to = format!(in rt.alloc(); "{name}.read{reader}")?;
         match make_part(rt, from, to.as_str()) {
@@ -102,8 +103,8 @@ fn reading_part(rt: &HostRuntime, from: &Names, name: &str) -> Result<Part, Fail
 fn list_part<L: Lister>(
     rt: &HostRuntime,
     name: &str,
-    from: &Names,
-    part: &Part,
+    from: &FileNames,
+    part: &CopyPart,
     lister: &mut L,
 ) -> Result<Result<(), L::Error>, Failure> {
     let target = Target {
@@ -120,7 +121,7 @@ fn list_part<L: Lister>(
     if matches!(owner_of(rt, copy), Ok(Owner::Other)) {
         return Err(unusable(rt.alloc(), name, FOREIGN));
     }
-    match list_file(rt, copy, Unknown, lister) {
+    match in_file(rt, copy, Unknown, 0, None, lister) {
         Ok(done) => listed(rt.alloc(), name, name, done),
         Err(unopened) => Err(unopened_copy(rt, copy, name, name, unopened)),
     }

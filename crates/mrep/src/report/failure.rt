@@ -6,23 +6,25 @@
 ghost use Rattle.std.specs.Prelude.{◌≡◌, ◌≤◌, Ok, IfOk};
 ghost use Rattle.mrep.specs.Failure.{IsCopyStatus, IsFileStatus, IsStatus, IsTold, IsWordsStatus, Tells, argument_status, database_status, description_status, kind_status, tables_status, unloadable_status};
 ghost use Rattle.mrep.specs.declared.report.failure.Failure.TheVariants as variants;
-ghost use Rattle.mrep.specs.declared.report.failure.Kind.TheVariants as kinds;
+ghost use Rattle.mrep.specs.declared.report.failure.FailureKind.TheVariants as kinds;
 
 use clap::error::ErrorKind;
 use columns::{DescriptionFault, LineFault};
 use command_line::ArgumentFault;
+use export::TablesFault;
+use feed::SkipError;
 use files::FileFault;
 use first_copy::CopyFault;
 use formats::{Quoted, Shown, write_named};
 use gtid::GtidFault;
+use messages::write_unloadable;
 use replica::{NoMemory, Unloadable};
-use reports::write_unloadable;
+use rows::{Misfit, RowError};
 use std::alloc::{AllocError, AllocFailed, Global};
 use std::fmt::Display;
 use std::io;
 use std::io::Write;
 use store::{Damage, StoreFault};
-use typed_rows::{Misfit, RowError, SkipError, TablesFault};
 
 /// Done.
 pub const DONE: u8 = 0;
@@ -47,7 +49,7 @@ const OTHER_TABLES: &str = "it was made for other tables than this one";
 
 /// What has failed, by which the exit status goes.
 #[derive(Clone, Copy, PartialEq, Eq)]
-pub enum Kind {
+pub enum FailureKind {
     /// The arguments, or the description of the columns.
     Usage,
     /// The data is refused.
@@ -68,110 +70,110 @@ pub enum Failure {
     /// The output could not be written.
     Output(io::Error),
     /// Anything else, with its message, which is a line or more.
-    Told { kind: Kind, message: Vec<u8> },
+    Told { kind: FailureKind, message: Vec<u8> },
 }
 
-impl Kind {
+impl FailureKind {
     /// The exit status.
     fn status(self) -> u8
         ensures status { result ≡ kind_status self }
         ensures range { result ≤ MEMORY }
     {
         match self {
-            Kind::Usage => USAGE,
-            Kind::Refused | Kind::Misfit => REFUSED,
-            Kind::Files => FILES,
-            Kind::Memory => MEMORY,
+            FailureKind::Usage => USAGE,
+            FailureKind::Refused | FailureKind::Misfit => REFUSED,
+            FailureKind::Files => FILES,
+            FailureKind::Memory => MEMORY,
         }
     }
 }
 
 /// Of a file, a host or the output.
-fn kind_of(cause: &io::Error) -> Kind
+fn kind_of(cause: &io::Error) -> FailureKind
     ensures status { IsFileStatus cause.now (kind_status result) }
 {
     if cause.kind() == io::ErrorKind::OutOfMemory {
-        Kind::Memory
+        FailureKind::Memory
     } else {
-        Kind::Files
+        FailureKind::Files
     }
 }
 
 /// Of opening a store, or of reading its rows.
-fn database_kind(cause: StoreFault) -> Kind
+fn database_kind(cause: StoreFault) -> FailureKind
     ensures status { kind_status result ≡ database_status cause }
 {
     match cause {
-        StoreFault::Memory => Kind::Memory,
+        StoreFault::Memory => FailureKind::Memory,
         StoreFault::NoSuchRow(_)
         | StoreFault::CountFull(_)
         | StoreFault::Database(_)
         | StoreFault::Damaged
         | StoreFault::Layout(_)
         | StoreFault::Broken
-        | StoreFault::Follows => Kind::Files,
+        | StoreFault::Follows => FailureKind::Files,
     }
 }
 
 /// Of a file that is no description of columns.
-fn description_kind(fault: DescriptionFault) -> Kind
+fn description_kind(fault: DescriptionFault) -> FailureKind
     ensures status { kind_status result ≡ description_status fault.fault }
 {
     match fault.fault {
-        LineFault::Memory => Kind::Memory,
-        _ => Kind::Usage,
+        LineFault::Memory => FailureKind::Memory,
+        _ => FailureKind::Usage,
     }
 }
 
 /// Of a file that is no first copy of tables, or cannot be read.
-fn copy_kind(fault: &CopyFault) -> Kind
+fn copy_kind(fault: &CopyFault) -> FailureKind
     ensures status { IsCopyStatus fault.now (kind_status result) }
 {
     match fault {
         CopyFault::Reader { error, .. } => kind_of(error),
-        CopyFault::Memory | CopyFault::Executed(GtidFault::Memory) => Kind::Memory,
-        _ => Kind::Refused,
+        CopyFault::Memory | CopyFault::Executed(GtidFault::Memory) => FailureKind::Memory,
+        _ => FailureKind::Refused,
     }
 }
 
 /// Of words that are no command line.
-fn words_kind(error: &clap::Error) -> Kind
+fn words_kind(error: &clap::Error) -> FailureKind
     ensures status { IsWordsStatus error.now (kind_status result) }
 {
     if error.kind() == ErrorKind::OutOfMemory {
-        Kind::Memory
+        FailureKind::Memory
     } else {
-        Kind::Usage
+        FailureKind::Usage
     }
 }
 
 /// Of an argument.
-fn argument_kind(fault: &ArgumentFault<'_>) -> Kind
+fn argument_kind(fault: &ArgumentFault<'_>) -> FailureKind
     ensures status { kind_status result ≡ argument_status fault.now }
 {
     match fault {
-        ArgumentFault::Memory => Kind::Memory,
-        _ => Kind::Usage,
+        ArgumentFault::Memory => FailureKind::Memory,
+        _ => FailureKind::Usage,
     }
 }
 
 /// Of a description of which no tables are made.
-fn tables_kind(fault: &TablesFault) -> Kind
+fn tables_kind(fault: &TablesFault) -> FailureKind
     ensures status { kind_status result ≡ tables_status fault.now }
 {
     match fault {
-        TablesFault::Memory => Kind::Memory,
-        _ => Kind::Usage,
+        TablesFault::Memory => FailureKind::Memory,
+        _ => FailureKind::Usage,
     }
 }
 
 /// Of a first copy that may not be loaded.
-fn unloadable_kind(why: &Unloadable) -> Kind
+fn unloadable_kind(why: &Unloadable) -> FailureKind
     ensures status { kind_status result ≡ unloadable_status why.now }
 {
     match why {
         Unloadable::Failed(cause) => database_kind(*cause),
-        _ => Kind::Refused,
+        _ => FailureKind::Refused,
     }
 }
 
@@ -200,7 +202,7 @@ impl Failure {
 }
 
 /// A failure of this kind, whose message has been written.
-fn told(kind: Kind, message: Vec<u8>, written: io::Result<()>) -> Failure
+fn told(kind: FailureKind, message: Vec<u8>, written: io::Result<()>) -> Failure
     ensures { IsTold kind result }
 {
     match written {
@@ -210,7 +212,7 @@ fn told(kind: Kind, message: Vec<u8>, written: io::Result<()>) -> Failure
 }
 
 /// A failure of this kind: what it is about, and its cause.
-pub fn named<C: Display>(alloc: Global, kind: Kind, name: &str, cause: &C) -> Failure
+pub fn named<C: Display>(alloc: Global, kind: FailureKind, name: &str, cause: &C) -> Failure
     ensures { IsTold kind result }
 {
     let mut message = Vec::new(alloc);
@@ -222,7 +224,7 @@ pub fn named<C: Display>(alloc: Global, kind: Kind, name: &str, cause: &C) -> Fa
 pub fn unusable(alloc: Global, name: &str, why: &str) -> Failure
     ensures { IsTold kinds.Files result }
 {
-    named(alloc, Kind::Files, name, &why)
+    named(alloc, FailureKind::Files, name, &why)
 }
 
 /// The file or the host of this name could not be opened, read or written.
@@ -267,7 +269,7 @@ pub fn of_other_tables(alloc: Global, name: &str) -> Failure
 {
     let mut message = Vec::new(alloc);
     let written = write_other_tables(name, &mut message);
-    let files = Kind::Files;
+    let files = FailureKind::Files;
     told(files, message, written)
 }
 
@@ -283,7 +285,7 @@ pub fn of_damage(alloc: Global, name: &str, damage: &Damage) -> Failure
     let fault = StoreFault::Damaged;
     let mut message = Vec::new(alloc);
     let written = writeln!(message, "mrep: {}: {fault}: {damage}", Shown(name));
-    told(Kind::Files, message, written)
+    told(FailureKind::Files, message, written)
 }
 
 /// The words are no command line, and this is to be typed, if that is known.
@@ -409,7 +411,7 @@ pub fn of_misfit(alloc: Global, name: &str, misfit: &Misfit) -> Failure
 {
     let mut message = Vec::new(alloc);
     let written = write_misfit(name, misfit, &mut message);
-    told(Kind::Misfit, message, written)
+    told(FailureKind::Misfit, message, written)
 }
 
 fn write_misfit(name: &str, misfit: &Misfit, message: &mut Vec<u8>) -> io::Result<()> {

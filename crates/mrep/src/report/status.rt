@@ -3,7 +3,7 @@
 ghost use Rattle.std.specs.Prelude.{◌≡◌, ◌≤◌, Err, IsOk, IfOk, IfErr};
 ghost use Rattle.mrep.specs.Reason.{status_of, first_status, IsCounted};
 
-use crate::report::failure::{DONE, FILES, Failure, Kind, MEMORY, REFUSED};
+use crate::report::failure::{DONE, FILES, Failure, FailureKind, MEMORY, REFUSED};
 use replica::{Ended, Reason};
 use std::io::Write;
 
@@ -49,7 +49,7 @@ pub fn counted<'e>(ends: &'e [Ended], done: &Result<(), Failure>) -> &'e [Ended]
             [before @ .., last],
             Err(
                 Failure::Told {
-                    kind: Kind::Misfit,
+                    kind: FailureKind::Misfit,
                     ..
                 }
                 | Failure::Memory,

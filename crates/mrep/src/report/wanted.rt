@@ -7,13 +7,14 @@ use crate::report::failure::{
 use binlog::Follow;
 use clap::ArgMatches;
 use command_line::{ArgumentFault, parse_encoding, parse_set, parse_tables, word};
-use formats::{Chosen, Format, Progress};
+use feed::{Feed, OUTPUT};
+use formats::Format;
 use gtid::GtidSet;
-use metrics::{Status, StatusFile};
-use reports::{Pulse, Reports, Source, Stop, UNFINISHED, Watch};
+use messages::UNFINISHED;
+use rows::{Chosen, DescribedTables};
 use std::alloc::Global;
 use std::io::{IsTerminal, Write};
-use typed_rows::{DescribedTables, Feed, OUTPUT};
+use watch::{Progress, Pulse, Reports, Source, Status, StatusFile, Watch, WatchStop};
 
 /// The database and the tables whose rows are kept, and what is reported.
 #[derive(Clone, Copy)]
@@ -252,17 +253,19 @@ impl<'g, 'a> Wanted<'g, 'a> {
     }
 
     /// The failure that stopped the reading, if there is one.
-    pub fn stopped(&self, alloc: Global, stop: Option<Stop>) -> Result<(), Failure> {
+    pub fn stopped(&self, alloc: Global, stop: Option<WatchStop>) -> Result<(), Failure> {
         match (stop, self.changes) {
             (None, _) => Ok(()),
-            (Some(Stop::Feed(cause)), Some(name)) if name != OUTPUT => {
+            (Some(WatchStop::Feed(cause)), Some(name)) if name != OUTPUT => {
                 Err(of_system(alloc, name, cause))
             }
-            (Some(Stop::Feed(cause) | Stop::Output(cause)), _) => Err(Failure::Output(cause)),
-            (Some(Stop::Misfit(misfit)), _) => {
+            (Some(WatchStop::Feed(cause) | WatchStop::Output(cause)), _) => Err(Failure::Output(
+                cause,
+            )),
+            (Some(WatchStop::Misfit(misfit)), _) => {
                 Err(of_misfit(alloc, self.columns.unwrap_or(""), &misfit))
             }
-            (Some(Stop::Unfinished), _) => Err(unusable(alloc, self.db, UNFINISHED)),
+            (Some(WatchStop::Unfinished), _) => Err(unusable(alloc, self.db, UNFINISHED)),
         }
     }
 }

@@ -1,7 +1,7 @@
 use Rattle.std.proofs.Common.{take}
 use Rattle.std.specs.Prelude.{flat_map}
 use Rattle.std.specs.Io.KnownBytes.{Appends}
-use Rattle.formats.specs.RowText.{byte_text}
+use Rattle.formats.specs.NameText.{byte_text}
 use Rattle.formats.proofs.hex.write_hex.Given as goal
 
 abbrev pub invariant-loop-byte : goal.invariant-loop-byte

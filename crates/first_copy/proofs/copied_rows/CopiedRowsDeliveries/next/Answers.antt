@@ -1,7 +1,7 @@
 use Rattle.std.proofs.Common.{◌||◌, sym, subst}
 use Rattle.std.specs.Io.KnownBytes.{prepend_known}
 use Rattle.std.proofs.lemmas.Bool.{or_from, false_from_ne_true}
-use Rattle.replica.specs.Given.{GivesOne}
+use Rattle.gather.specs.Given.{GivesOne}
 use Rattle.first_copy.specs.Supplied.{supply_of}
 use Rattle.first_copy.specs.declared.copy_fault.CopyFault.TheVariants.{Failed}
 use Rattle.first_copy.proofs.Supplies.{gives_next, one_within, not_err}

@@ -1,0 +1,125 @@
+//! What the events of a transaction say of it besides its changes: when each change was made, and of the commit when it was,
+//! on which server, and under which number there.
+
+ghost use Rattle.std.specs.Prelude.{◌≡◌, ◌<◌, ◌≤◌, ℕ, List, [], None, Some, true, false, OnOk, OnErr};
+ghost use Rattle.binlog.specs.Event.{gtid, rows, xid};
+ghost use Rattle.binlog.specs.EventView.{event_value};
+ghost use Rattle.binlog.specs.Rows.{RowsValue};
+ghost use Rattle.feed.specs.Seconds.{seconds_at};
+ghost use Rattle.feed.specs.Stamps.{AreSecondsOf, IsServerOf, IsCommitOf, is_rows, is_said};
+
+use crate::seconds::Seconds;
+use binlog::{Event, Origin, committed_micros};
+use std::alloc::{AllocError, Global};
+
+/// What the events of the open transaction say of it. What they do not say is not known.
+#[derive(Debug, Drop)]
+pub struct Stamps {
+    /// The id of the server that committed it first.
+    pub(crate) server: Option<u32>,
+    /// When the sending server committed it, in microseconds since 1970-01-01 00:00:00 UTC.
+    pub(crate) committed: Option<u64>,
+    /// The number of its XID event. A transaction that ends with COMMIT has none.
+    pub(crate) xid: Option<u64>,
+    /// The seconds of its changes.
+    pub(crate) seconds: Seconds,
+}
+
+impl Stamps {
+    /// Nothing is known. It takes no memory.
+    pub fn new(alloc: Global) -> Stamps
+        ensures known { (result.server ≡ None) × ((result.committed ≡ None) × (result.xid ≡ None)) }
+        ensures seconds { result.seconds ≡ [] }
+    {
+        Stamps {
+            server: None,
+            committed: None,
+            xid: None,
+            seconds: Seconds::new(alloc),
+        }
+    }
+
+    /// Forgets all.
+    pub fn clear(&mut self)
+        ensures known { (self.new.server ≡ None) × ((self.new.committed ≡ None)
+            × (self.new.xid ≡ None)) }
+        ensures seconds { self.new.seconds ≡ [] }
+    {
+        self.begin(None, None);
+    }
+
+    /// When the sending server committed the transaction, in microseconds since 1970-01-01 00:00:00 UTC, if that is known.
+    pub fn committed_at(&self) -> Option<u64>
+        ensures { result ≡ self.now.committed }
+    {
+        self.committed
+    }
+
+    /// Takes an event, its bytes, and how many changes the open transaction had before it. A GTID event begins anew. If
+    /// memory runs out, which it does only at a rows event, the seconds of the changes before it stay as they were.
+    pub fn event(
+        &mut self,
+        event: &Event<'_>,
+        bytes: &[u8],
+        pending: usize,
+    ) -> Result<(), AllocError>
+        ensures begun { (source : List ℕ) (number : ℕ) → event_value event.now ≡ gtid source number
+            → IsServerOf bytes.now self.new.server × (IsCommitOf bytes.now self.new.committed
+            × ((self.new.xid ≡ None) × (self.new.seconds ≡ []))) }
+        ensures rows { (value : RowsValue) → event_value event.now ≡ rows value → (n : ℕ)
+            → pending ≤ n → OnOk result (AreSecondsOf bytes.now (seconds_at self.new.seconds n)) }
+        ensures before { (value : RowsValue) → event_value event.now ≡ rows value → (n : ℕ)
+            → n < pending → seconds_at self.new.seconds n ≡ seconds_at self.old.seconds n }
+        ensures xid { (number : ℕ) → event_value event.now ≡ xid number →
+            self.new ≡ record self.old { xid = Some number } }
+        ensures kept { is_said (event_value event.now) ≡ false → self.new ≡ self.old }
+        ensures memory { OnErr result (is_rows (event_value event.now) ≡ true) }
+    {
+        match event {
+            Event::Gtid(_) => self.begin(server_of(bytes), commit_of(bytes)),
+            Event::Rows(_) => self.seconds.set(pending, seconds_of(bytes))?,
+            Event::Xid { number } => self.xid = Some(*number),
+            _ => {}
+        }
+        Ok(())
+    }
+
+    /// Begins a transaction of which this is known.
+    fn begin(&mut self, server: Option<u32>, committed: Option<u64>)
+        ensures known { (self.new.server ≡ server)
+            × ((self.new.committed ≡ committed) × (self.new.xid ≡ None)) }
+        ensures seconds { self.new.seconds ≡ [] }
+    {
+        self.server = server;
+        self.committed = committed;
+        self.xid = None;
+        self.seconds.clear();
+    }
+}
+
+/// The seconds in the header of an event.
+fn seconds_of(event: &[u8]) -> Option<u32>
+    ensures { AreSecondsOf event.now result }
+{
+    match Origin::read(event) {
+        Some(origin) => Some(origin.seconds),
+        None => None,
+    }
+}
+
+/// The server id in the header of an event.
+fn server_of(event: &[u8]) -> Option<u32>
+    ensures { IsServerOf event.now result }
+{
+    match Origin::read(event) {
+        Some(origin) => Some(origin.server_id),
+        None => None,
+    }
+}
+
+/// The time of the commit in a GTID event, in microseconds.
+fn commit_of(event: &[u8]) -> Option<u64>
+    ensures { IsCommitOf event.now result }
+{
+    committed_micros(event)
+}

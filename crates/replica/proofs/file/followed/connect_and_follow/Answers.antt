@@ -1,0 +1,25 @@
+use Rattle.replica.proofs.Names.{Ok, Err, refl, subst, Ids}
+use Rattle.replica.proofs.Keeps.{keeps_noticed, keeps_then, since_opened, since_then}
+use Rattle.replica.proofs.file.followed.connect_and_follow.Goals as goal
+
+pub returns-in-Ok-clause-connects : goal.returns-in-Ok-clause-connects
+returns-in-Ok-clause-connects g c clean held holds =
+    let followed = rw c.new-counted.ensures at c.follow_observed-end.ensures in
+    record {
+      stream = c.in-Ok.stream;
+      given = subst (λ (ids : Ids). g.C.Connect.gives c.args.connect ids (Ok c.in-Ok.stream)) (c.executed-executed.ensures.value held.broken held.content holds) c.in-Ok.ensures;
+      follows = followed.follows clean held.broken held.content holds;
+      reported = followed.failures.reported;
+    }
+
+pub returns-in-Err-clause-connects : goal.returns-in-Err-clause-connects
+returns-in-Err-clause-connects g c clean held holds =
+    (subst (λ (ids : Ids). g.C.Connect.gives c.args.connect ids (Err c.in-Err.cause)) (c.executed-executed.ensures.value held.broken held.content holds) c.in-Err.ensures, refl)
+
+pub returns-in-Ok-clause-keeps : goal.returns-in-Ok-clause-keeps
+returns-in-Ok-clause-keeps g c =
+    since_then g.S.Store (λ some. absurd (some refl)) refl (λ some. absurd (some refl)) (since_opened g.S.Store c.executed-executed.ensures.value c.opened.ensures.noticed c.opened.ensures.excludes)
+    (keeps_then g.S.Store (keeps_noticed g.S.Store c.connected.ensures.noticed) c.follow_observed-end.ensures.keeps)
+
+pub returns-in-Err-clause-keeps : goal.returns-in-Err-clause-keeps
+returns-in-Err-clause-keeps g c = since_opened g.S.Store c.executed-executed.ensures.value c.opened.ensures.noticed c.opened.ensures.excludes

@@ -1,0 +1,6 @@
+use Rattle.replica.proofs.Names.{Hello, refusal_of}
+use Rattle.replica.proofs.Messages.{message_ends}
+use Rattle.replica.proofs.session.message.take_greeting.Goals as goal
+
+pub returns-in-Err-clause-err : goal.returns-in-Err-clause-err
+returns-in-Err-clause-err c names executed = message_ends names executed Hello c.args.payload.now c.reported.result tt (c.reported.ensures.reported (refusal_of Hello c.args.payload.now) c.in-Err.ensures.fault)

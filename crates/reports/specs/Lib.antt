@@ -1,2 +1,0 @@
-pub mod DatabaseSets
-pub mod TextLines

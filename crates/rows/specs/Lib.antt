@@ -1,0 +1,4 @@
+pub mod RowText
+pub mod DescribedTables
+pub mod DatabaseSets
+pub mod TextLines

@@ -1,3 +1,0 @@
-pub mod DescribedTables
-pub mod Seconds
-pub mod Stamps
