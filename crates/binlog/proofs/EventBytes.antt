@@ -5,7 +5,7 @@ use Rattle.binlog.specs.Body.{statement}
 use Rattle.binlog.specs.Event.{EventValue, format, begin, commit, neutral, stop, rotate, gtid, table_map, other_map, rows, xid, IsOtherMap, HasBody, IsEvent}
 use Rattle.binlog.specs.Writing.{HasMap, HasRowsBody, header_bytes, format_body, query_body, gtid_body, rows_body, event_code, event_body, framed_bytes, event_bytes}
 use Rattle.binlog.proofs.Headers as headers
-use Rattle.binlog.proofs.TableSets.{all_follow}
+use Rattle.binlog.proofs.TableSets.{all_read}
 use Rattle.binlog.proofs.TableMapBytes.{map_written, map_short}
 use Rattle.binlog.proofs.RowsEventBytes.{rows_written, rows_end}
 
@@ -74,7 +74,7 @@ gtid_written source number body is = record {
 }
 
 not_other : (id : ℕ) (body : List ℕ) → IsOtherMap set.empty id body → ⊥
-not_other id body is = false≢true (sym is.other ∙ all_follow is.schema is.table)
+not_other id body is = false≢true (sym is.other ∙ all_read is.schema is.table)
 
 -- the body that is written, of some event
 pub body_written : (e : EventValue) (code : ℕ) (may_ignore : Bool) (body : List ℕ) → HasBody set.empty e code may_ignore body → HasBody set.empty e (event_code e) false (event_body e)
@@ -85,7 +85,7 @@ body_written neutral code may_ignore body is = inl refl
 body_written stop code may_ignore body is = refl
 body_written (rotate position name) code may_ignore body (is, of) = (refl, (of.0, refl))
 body_written (gtid source number) code may_ignore body (is, of) = (refl, gtid_written source number body of)
-body_written (table_map t) code may_ignore body (is, of, admitted) = (refl, map_written t (record { body = body; is_map = of }), all_follow t.schema t.table)
+body_written (table_map t) code may_ignore body (is, of, admitted) = (refl, map_written t (record { body = body; is_map = of }), all_read t.schema t.table)
 body_written (other_map id) code may_ignore body (is, of) = absurd (not_other id body of)
 body_written (rows r) code may_ignore body (is, of) = (refl, rows_written r (record { body = body; is_rows = of }))
 body_written (xid number) code may_ignore body (is, of) = (refl, (of.0, refl))
@@ -157,7 +157,7 @@ pub writes_xid : (number : ℕ) → number < 2 ^ 64 → IsWritable (xid number)
 writes_xid number fits = writable (xid number) (refl, (fits, refl)) (omega arith)
 
 pub writes_map : (t : TableValue) → HasMap t → IsWritable (table_map t)
-writes_map t has = writable (table_map t) (refl, map_written t has, all_follow t.schema t.table) (omega (arith, map_short t has))
+writes_map t has = writable (table_map t) (refl, map_written t has, all_read t.schema t.table) (omega (arith, map_short t has))
 
 pub map_of : (t : TableValue) → IsWritable (table_map t) → HasMap t
 map_of t is = let (is_code, of, admitted) = is.is_event.has_body in record { body = is.is_event.body; is_map = of }

@@ -1,5 +1,5 @@
 -- Events: bytes are one or are refused, and what they say is determined.
-use Rattle.binlog.proofs.Names.{◌≡◌, ℕ, ◌+◌, ◌==◌, ◌&&◌, Bool, true, false, List, [], ◌∷◌, get_or, take, codes, Option, Some, None, refl, sym, ap, subst, ◌∙◌, inl, inr, nat_le, bytes_eq, cases_eq, cases_Bool, ne_eqb, false≢true, none-some, refuse, number_at, IsFramed, IsQuery, text_place, TableValue, IsNamed, AreColumns, terminator_place, columns_at, RowsValue, admits, Query, Begin, Commit, RowsKind, Write, Update, Delete, EventFault, IsBytes}
+use Rattle.binlog.proofs.Names.{◌≡◌, ℕ, ◌+◌, ◌==◌, ◌&&◌, Bool, true, false, List, [], ◌∷◌, get_or, take, codes, Option, Some, None, refl, sym, ap, subst, ◌∙◌, inl, inr, nat_le, bytes_eq, cases_eq, cases_Bool, ne_eqb, false≢true, none-some, refuse, number_at, IsFramed, IsQuery, text_place, TableValue, IsNamed, AreColumns, terminator_place, columns_at, RowsValue, is_read, Query, Begin, Commit, RowsKind, Write, Update, Delete, EventFault, IsBytes}
 use Rattle.std.proofs.Common.{drop}
 use Rattle.std.specs.Prelude.{not, if◌then◌else◌, Result, Ok, Err, IfOk, IfErr, MatchResult}
 use Rattle.std.proofs.lemmas.Bool.{or_parts}
@@ -131,7 +131,7 @@ abbrev table_at : List ℕ → TableValue
 table_at bytes = record { id = number_at 6 bytes 19; schema = named_schema bytes; table = named_table bytes; columns = columns_at bytes (terminator_place bytes + 1) }
 
 abbrev map_at : Names → List ℕ → EventValue
-map_at names bytes = if admits names (named_schema bytes) (named_table bytes) then table_map (table_at bytes) else other_map (number_at 6 bytes 19)
+map_at names bytes = if is_read names (named_schema bytes) (named_table bytes) then table_map (table_at bytes) else other_map (number_at 6 bytes 19)
 
 abbrev event_at : Names → List ℕ → ℕ → EventValue
 event_at names bytes code =
@@ -168,11 +168,11 @@ said names (rotate position name) code may_ignore bytes (is, body) = let r = rot
 said names (gtid source number) code may_ignore bytes (is, body) = let t = gtid_reported source number bytes body in ap (event_at names bytes) is ∙ (λ i. gtid (t.source_is i) (t.number_is i))
 said names (table_map t) code may_ignore bytes (is, body, admitted) =
     let n = names_reported t.id t.schema t.table body.rest bytes body.named in
-    let taken : admits names (named_schema bytes) (named_table bytes) ≡ true = (λ i. admits names (n.schema_is i) (n.table_is i)) ∙ admitted in
+    let taken : is_read names (named_schema bytes) (named_table bytes) ≡ true = (λ i. is_read names (n.schema_is i) (n.table_is i)) ∙ admitted in
     ap (event_at names bytes) is ∙ ap (λ b. if b then table_map (table_at bytes) else other_map (number_at 6 bytes 19)) taken ∙ ap table_map (columns_said t body.rest bytes body.named body.columns)
 said names (other_map id) code may_ignore bytes (is, body) =
     let n = names_reported id body.schema body.table body.rest bytes body.named in
-    let left : admits names (named_schema bytes) (named_table bytes) ≡ false = (λ i. admits names (n.schema_is i) (n.table_is i)) ∙ body.other in
+    let left : is_read names (named_schema bytes) (named_table bytes) ≡ false = (λ i. is_read names (n.schema_is i) (n.table_is i)) ∙ body.other in
     ap (event_at names bytes) is ∙ ap (λ b. if b then table_map (table_at bytes) else other_map (number_at 6 bytes 19)) left ∙ ap other_map n.id_is
 said names (rows r) code may_ignore bytes (is, body) = rows_said names r.kind r code bytes is (rows_reported r bytes body).is
 said names (xid number) code may_ignore bytes (is, body) = ap (event_at names bytes) is ∙ ap xid (xid_one number bytes body)
@@ -197,7 +197,7 @@ rows_fine names Write code may_ignore bytes is none = subst (IsFine names bytes 
 rows_fine names Update code may_ignore bytes is none = subst (IsFine names bytes may_ignore) (sym is) (refl, none)
 rows_fine names Delete code may_ignore bytes is none = subst (IsFine names bytes may_ignore) (sym is) (refl, none)
 
-map_not_refused : (names : Names) (bytes : List ℕ) (columns : Bool) → names_fault bytes ≡ None → admits names (named_schema bytes) (named_table bytes) ≡ columns →
+map_not_refused : (names : Names) (bytes : List ℕ) (columns : Bool) → names_fault bytes ≡ None → is_read names (named_schema bytes) (named_table bytes) ≡ columns →
     (columns ≡ true → columns_fault bytes (terminator_place bytes + 1) ≡ None) → table_map_fault names bytes ≡ None
 unfolding table_map_fault
 map_not_refused names bytes true none admitted fine = rw (none, admitted, fine refl) refl
@@ -214,12 +214,12 @@ fine names (rotate position name) code may_ignore bytes (is, body) = subst (IsFi
 fine names (gtid source number) code may_ignore bytes (is, body) = subst (IsFine names bytes may_ignore) (sym is) (refl, gtid_not_refused source number bytes body)
 fine names (table_map t) code may_ignore bytes (is, body, admitted) =
     let n = names_reported t.id t.schema t.table body.rest bytes body.named in
-    let taken : admits names (named_schema bytes) (named_table bytes) ≡ true = (λ i. admits names (n.schema_is i) (n.table_is i)) ∙ admitted in
+    let taken : is_read names (named_schema bytes) (named_table bytes) ≡ true = (λ i. is_read names (n.schema_is i) (n.table_is i)) ∙ admitted in
     let columns = columns_not_refused t.columns bytes (terminator_place bytes + 1) (subst (AreColumns t.columns) (sym n.rest_is) body.columns) in
     subst (IsFine names bytes may_ignore) (sym is) (refl, map_not_refused names bytes true (names_not_refused t.id t.schema t.table body.rest bytes body.named) taken (λ _. columns))
 fine names (other_map id) code may_ignore bytes (is, body) =
     let n = names_reported id body.schema body.table body.rest bytes body.named in
-    let left : admits names (named_schema bytes) (named_table bytes) ≡ false = (λ i. admits names (n.schema_is i) (n.table_is i)) ∙ body.other in
+    let left : is_read names (named_schema bytes) (named_table bytes) ≡ false = (λ i. is_read names (n.schema_is i) (n.table_is i)) ∙ body.other in
     subst (IsFine names bytes may_ignore) (sym is) (refl, map_not_refused names bytes false (names_not_refused id body.schema body.table body.rest bytes body.named) left (λ no. absurd (false≢true no)))
 fine names (rows r) code may_ignore bytes (is, body) = rows_fine names r.kind code may_ignore bytes is (rows_not_refused r.kind bytes (rows_reported r bytes body).are)
 fine names (xid number) code may_ignore bytes (is, body) = subst (IsFine names bytes may_ignore) (sym is) (refl, xid_not_refused number bytes body)
@@ -252,20 +252,20 @@ some_map : (names : Names) (code : ℕ) (may_ignore : Bool) (bytes : List ℕ) �
 unfolding table_map_fault
 some_map names code may_ignore bytes fits is none =
     let p1 = passes (names_fault bytes) _ none in
-    let p2 = passes (if admits names (named_schema bytes) (named_table bytes) then columns_fault bytes (terminator_place bytes + 1) else None) [] p1.1 in
+    let p2 = passes (if is_read names (named_schema bytes) (named_table bytes) then columns_fault bytes (terminator_place bytes + 1) else None) [] p1.1 in
     let h = has_names bytes fits p1.0 in
     let n = names_reported h.id h.schema h.table h.rest bytes h.named in
-    elim (cases_Bool (admits names (named_schema bytes) (named_table bytes))) as (λ _. HasSome names code may_ignore (drop 19 bytes)) [
+    elim (cases_Bool (is_read names (named_schema bytes) (named_table bytes))) as (λ _. HasSome names code may_ignore (drop 19 bytes)) [
       | inl taken ↦
           let fine = ap (λ b. if b then columns_fault bytes (terminator_place bytes + 1) else None) (sym taken) ∙ p2.0 in
           let c = has_columns bytes (terminator_place bytes + 1) fits fine in
           record {
             event = table_map (record { id = h.id; schema = h.schema; table = h.table; columns = c.columns });
-            has_body = (is, record { rest = h.rest; named = h.named; columns = subst (AreColumns c.columns) n.rest_is c.are_columns }, (λ i. admits names (sym n.schema_is i) (sym n.table_is i)) ∙ taken);
+            has_body = (is, record { rest = h.rest; named = h.named; columns = subst (AreColumns c.columns) n.rest_is c.are_columns }, (λ i. is_read names (sym n.schema_is i) (sym n.table_is i)) ∙ taken);
           }
       | inr left ↦ record {
         event = other_map h.id;
-        has_body = (is, record { schema = h.schema; table = h.table; rest = h.rest; named = h.named; other = (λ i. admits names (sym n.schema_is i) (sym n.table_is i)) ∙ left });
+        has_body = (is, record { schema = h.schema; table = h.table; rest = h.rest; named = h.named; other = (λ i. is_read names (sym n.schema_is i) (sym n.table_is i)) ∙ left });
       }
     ]
 

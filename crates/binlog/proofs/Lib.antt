@@ -29,3 +29,5 @@ mod Names
 pub mod NamesOnce
 pub mod NamePlaces
 pub mod SameNames
+pub mod JoinedBytes
+pub mod Unkept

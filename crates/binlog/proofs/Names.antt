@@ -6,7 +6,7 @@ pub use Rattle.binlog.specs.Columns.{columns_at}
 pub use Rattle.binlog.specs.Count.{count_width, count_at}
 pub use Rattle.binlog.specs.EventView.{event_value}
 pub use Rattle.binlog.specs.Fault.{refuse, needs, number_at}
-pub use Rattle.binlog.specs.Filter.{Name, name_cmp, is_named_in, admits, AreAmong}
+pub use Rattle.binlog.specs.Filter.{Name, name_cmp, is_named_in, admits, is_read, is_meant, AreAmong}
 pub use Rattle.binlog.specs.FilterView.{name_list}
 pub use Rattle.binlog.specs.Header.{IsFramed}
 pub use Rattle.binlog.specs.Row.{bitmap_size, kinds, row_cells, is_set, AreValues, further, ◌>>=◌, values_end}

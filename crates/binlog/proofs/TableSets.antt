@@ -1,5 +1,5 @@
 -- The set of a list of tables.
-use Rattle.binlog.proofs.Names.{◌≡◌, ℕ, suc, Bool, true, false, ◌&&◌, ◌||◌, ◌==◌, List, [], ◌∷◌, length, arith, refl, ap, sym, ◌∙◌, bytes_eq, false≢true, ne_eqb, and_from, bytes_eq-Decides, Name, name_cmp, is_named_in, admits}
+use Rattle.binlog.proofs.Names.{◌≡◌, ℕ, suc, Bool, true, false, ◌&&◌, ◌||◌, ◌==◌, List, [], ◌∷◌, ◌++◌, length, arith, refl, ap, sym, ◌∙◌, bytes_eq, false≢true, ne_eqb, and_from, bytes_eq-Decides, Name, name_cmp, is_named_in, admits}
 use Rattle.std.specs.Ordering.{nat_cmp, eq_by_cmp}
 use Rattle.std.specs.Cmp.{IsTotalOrder, then_total, on_total, tied_then, both_ways}
 use Rattle.std.specs.Cmp.Lexicographic.{slice_cmp, nat_list_cmp_total}
@@ -8,6 +8,7 @@ use Rattle.std.specs.List.{list_any}
 use Rattle.std.proofs.lemmas.Map.Text.{is_eq-slice_cmp}
 use Rattle.std.proofs.lemmas.Bool.{false_from_ne_true}
 use Rattle.gtid.proofs.Sets.{then_equal}
+use Rattle.binlog.specs.Filter.{Names, is_read, is_meant, read_table, read_schema, read_all}
 
 pub name_cmp_total : IsTotalOrder name_cmp
 name_cmp_total = then_total (on_total (λ (a : Name). a.0) nat_list_cmp_total) (on_total (λ (a : Name). a.1) nat_list_cmp_total)
@@ -51,6 +52,48 @@ follow_by count (name ∷ names) schema table empty is counts = (
   (λ _. ap (λ b. b || set.contains (set.from_list {R = name_cmp} (name ∷ names)) (schema, table)) (some_name name names) ∙ listed (name ∷ names) (schema, table)),
 )
 
--- with the empty set all are followed
+-- with the empty set all are followed, and read
 pub all_follow : (schema table : List ℕ) → admits set.empty schema table ≡ true
 all_follow schema table = ap (λ b. b || set.contains (set.from_list {R = name_cmp} []) (schema, table)) all_of_none
+
+-- a name means the table
+abbrev means_in : Names → List ℕ → List ℕ → Bool
+means_in names schema table =
+    set.contains names (read_table ++ schema, table) || (set.contains names (read_schema ++ schema, []) || set.contains names (read_all ++ [], []))
+
+read_is : (names : Names) (schema table : List ℕ) → is_read names schema table ≡ (admits names schema table || means_in names schema table)
+unfolding is_read
+read_is names schema table = refl
+
+-- what is admitted is read
+pub admitted_read : (names : Names) (schema table : List ℕ) → admits names schema table ≡ true → is_read names schema table ≡ true
+admitted_read names schema table is = read_is names schema table ∙ ap (λ b. b || means_in names schema table) is
+
+-- and what is not read is not admitted
+pub not_read : (names : Names) (schema table : List ℕ) → is_read names schema table ≡ false → admits names schema table ≡ false
+not_read names schema table is = false_from_ne_true _ (λ yes. false≢true (sym is ∙ admitted_read names schema table yes))
+
+pub all_read : (schema table : List ℕ) → is_read set.empty schema table ≡ true
+all_read schema table = admitted_read set.empty schema table (all_follow schema table)
+
+-- what is not admitted is read if a name of the list means it
+pub read_by : (names : List Name) (schema table : List ℕ) → admits (set.from_list {R = name_cmp} names) schema table ≡ false → is_read (set.from_list {R = name_cmp} names) schema table ≡ is_meant names schema table
+unfolding is_meant
+read_by names schema table not =
+    read_is (set.from_list {R = name_cmp} names) schema table
+    ∙ ap (λ b. b || means_in (set.from_list {R = name_cmp} names) schema table) not
+    ∙ (λ i. listed names (read_table ++ schema, table) i || (listed names (read_schema ++ schema, []) i || listed names (read_all ++ [], []) i))
+
+-- ---- Whether a name of a list means a table, as it is looked for.
+
+pub meant_first : (names : List Name) (schema table : List ℕ) → is_named_in (read_table ++ schema, table) names ≡ true → is_meant names schema table ≡ true
+unfolding is_meant
+meant_first names schema table is = ap (λ b. b || (is_named_in (read_schema ++ schema, []) names || is_named_in (read_all ++ [], []) names)) is
+
+pub meant_second : (names : List Name) (schema table : List ℕ) → is_named_in (read_table ++ schema, table) names ≡ false → is_named_in (read_schema ++ schema, []) names ≡ true → is_meant names schema table ≡ true
+unfolding is_meant
+meant_second names schema table not is = (λ i. not i || (is i || is_named_in (read_all ++ [], []) names))
+
+pub meant_third : (names : List Name) (schema table : List ℕ) → is_named_in (read_table ++ schema, table) names ≡ false → is_named_in (read_schema ++ schema, []) names ≡ false → is_meant names schema table ≡ is_named_in (read_all ++ [], []) names
+unfolding is_meant
+meant_third names schema table not neither = (λ i. not i || (neither i || is_named_in (read_all ++ [], []) names))

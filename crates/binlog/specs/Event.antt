@@ -8,7 +8,7 @@ use Rattle.binlog.specs.Header.{ignorable_flag, IsFramed, header_fault}
 use Rattle.binlog.specs.Body.{IsFormat, IsRotate, IsXid, IsGtidBody, IsQuery, statement, format_fault, rotate_fault, xid_fault, gtid_fault, query_fault}
 use Rattle.binlog.specs.Table.{TableValue, IsNamed, IsTableMap, names_fault, columns_fault, named_schema, named_table, terminator_place}
 use Rattle.binlog.specs.Rows.{RowsValue, IsRows, rows_code, rows_fault}
-use Rattle.binlog.specs.Filter.{Names, admits}
+use Rattle.binlog.specs.Filter.{Names, is_read}
 use Rattle.binlog.specs.declared.body.query.Query.TheVariants.{Begin, Commit}
 use Rattle.binlog.specs.declared.body.rows_event.RowsKind.TheVariants.{Write, Update, Delete}
 use Rattle.binlog.specs.declared.fault.EventFault.{EventFault}
@@ -62,7 +62,7 @@ pub record IsOtherMap (names : Names) (id : ℕ) (body : List ℕ) : Type 0 wher
   pub table : List ℕ
   pub rest : List ℕ
   pub named : IsNamed id schema table rest body
-  pub other : admits names schema table ≡ false
+  pub other : is_read names schema table ≡ false
 
 -- The type and the body are those of the event.
 abbrev pub HasBody : Names → EventValue → ℕ → Bool → List ℕ → Type 0
@@ -73,7 +73,7 @@ HasBody names neutral code may_ignore body = IsNeutral code may_ignore
 HasBody names stop code may_ignore body = code ≡ event_type.stop
 HasBody names (rotate position name) code may_ignore body = (code ≡ event_type.rotate) × IsRotate position name body
 HasBody names (gtid source number) code may_ignore body = (code ≡ event_type.gtid) × IsGtidBody source number body
-HasBody names (table_map t) code may_ignore body = (code ≡ event_type.table_map) × IsTableMap t body × (admits names t.schema t.table ≡ true)
+HasBody names (table_map t) code may_ignore body = (code ≡ event_type.table_map) × IsTableMap t body × (is_read names t.schema t.table ≡ true)
 HasBody names (other_map id) code may_ignore body = (code ≡ event_type.table_map) × IsOtherMap names id body
 HasBody names (rows r) code may_ignore body = (code ≡ rows_code r.kind) × IsRows r body
 HasBody names (xid number) code may_ignore body = (code ≡ event_type.xid) × IsXid number body
@@ -111,7 +111,7 @@ type_fault code may_ignore = first_of (
 unfoldable pub table_map_fault : Names → List ℕ → Option EventFault
 table_map_fault names bytes = first_of (
     names_fault bytes
-    ∷ (if admits names (named_schema bytes) (named_table bytes) then columns_fault bytes (terminator_place bytes + 1) else None)
+    ∷ (if is_read names (named_schema bytes) (named_table bytes) then columns_fault bytes (terminator_place bytes + 1) else None)
     ∷ [])
 
 -- the body of this type

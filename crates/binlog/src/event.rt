@@ -5,7 +5,7 @@ ghost use Rattle.std.specs.FinSet as set;
 ghost use Rattle.binlog.specs.Fault.{first_of};
 ghost use Rattle.binlog.specs.Header.{header_length, IsFramed};
 ghost use Rattle.binlog.specs.EventType as type_code;
-ghost use Rattle.binlog.specs.Filter.{admits};
+ghost use Rattle.binlog.specs.Filter.{is_read};
 ghost use Rattle.binlog.specs.Event.{EventValue, HasBody, IsEvent, type_fault, table_map_fault, body_fault, event_fault, gtid};
 ghost use Rattle.binlog.specs.EventView.{event_value, filter_of};
 ghost use Rattle.binlog.specs.Writing.{IsWritable, event_code, event_body, event_bytes};
@@ -69,8 +69,8 @@ pub fn read_event(bytes: &[u8]) -> Result<Event<'_>, EventFault>
     read(bytes, None)
 }
 
-/// Like [`read_event`], with a list of tables: a table map of another table is not read after its names, and is
-/// answered as [`Event::OtherMap`]. An empty list means all tables.
+/// Like [`read_event`], with a list of tables: a table map of a table that the list does not read ([`Follow::reads`]) is not
+/// read after its names, and is answered as [`Event::OtherMap`]. An empty list means all tables.
 pub fn read_event_only<'a>(bytes: &'a [u8], filter: &Follow) -> Result<Event<'a>, EventFault>
     ensures found { IfOk result (λ event. IsEvent filter.now (event_value event) bytes.now) }
     ensures only { (e : EventValue) → IsEvent filter.now e bytes.now
@@ -162,7 +162,7 @@ fn read_map<'a>(
         ≡ Some fault) }
 {
     let names = read_names(bytes)?;
-    if !is_admitted(filter, names.schema, names.table) {
+    if !is_read(filter, names.schema, names.table) {
         return Ok(Event::OtherMap { id: names.id });
     }
     let columns = read_columns(bytes, names.end)?;
@@ -174,12 +174,12 @@ fn read_map<'a>(
     }))
 }
 
-/// Whether a filter admits a table. Without one, all tables are admitted.
-fn is_admitted(filter: Option<&Follow>, schema: &[u8], table: &[u8]) -> bool
-    ensures { result ≡ admits (filter_of filter.entry) schema.now table.now }
+/// Whether a filter reads a table. Without one, all tables are read.
+fn is_read(filter: Option<&Follow>, schema: &[u8], table: &[u8]) -> bool
+    ensures { result ≡ is_read (filter_of filter.entry) schema.now table.now }
 {
     match filter {
-        Some(filter) => filter.follows(schema, table),
+        Some(filter) => filter.reads(schema, table),
         None => true,
     }
 }

@@ -2,7 +2,7 @@
 //!
 //! [`read_event`] reads an [`Event`] from the bytes of one payload. The event borrows from these bytes: nothing is
 //! copied, and no memory is taken. [`read_event_only`] takes a filter, [`Follow`], and reads of a table map only its
-//! names if the table is not in the filter. A [`TableMap`] that is to outlive its payload is copied to a [`TableDef`].
+//! names if the filter does not read the table. A [`TableMap`] that is to outlive its payload is copied to a [`TableDef`].
 //! [`RowsEvent::rows`] iterates over the rows of an event, given such a table, one [`RowPair`] at a time;
 //! [`Row::cells`] are the cells of a row.
 //!
@@ -24,6 +24,7 @@ mod filter;
 mod header;
 pub mod laws;
 mod origin;
+mod reading;
 mod row;
 mod row_pair;
 mod rows;
@@ -39,6 +40,7 @@ pub use fault::{EventFault, EventFaultKind};
 pub use filter::Follow;
 pub use header::Header;
 pub use origin::{Origin, committed_micros};
+pub use reading::meant;
 pub use row::{Cells, Row};
 pub use row_pair::{OwnedPair, RowPair};
 pub use rows::{Rows, rows_fit, write_rows};

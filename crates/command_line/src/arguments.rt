@@ -36,6 +36,11 @@ const NO_DIGEST: &str = "not a SHA-1: expected 40 hexadecimal digits";
 const NO_BYTES: &[u8] =
     b"mrep: --bytes needs --format json, or csv without --columns, or --changes\n";
 
+const FEED_ONLY: &[u8] =
+    b"mrep: --feed-only needs --changes FILE, a file on a disk: nothing else keeps the changes\n";
+
+const NEW_FEED: &[u8] = b"mrep: --new-feed needs --feed-only\n";
+
 const NO_COLUMNS: &[u8] = b"mrep: --format tsv and sql need --columns\n";
 
 /// Why arguments are not what they should be.
@@ -76,6 +81,10 @@ pub enum ArgumentFault<'a> {
     Bytes,
     /// A format is asked for whose rows need names and types, and no description is given.
     Columns,
+    /// No rows are to be kept, and the changes go to no file.
+    FeedOnly,
+    /// Another file of changes is to be begun, and rows are kept.
+    NewFeed,
     /// An allocation was refused.
     Memory,
 }
@@ -107,6 +116,8 @@ impl ArgumentFault<'_> {
             }
             ArgumentFault::Bytes => err.write_all(NO_BYTES),
             ArgumentFault::Columns => err.write_all(NO_COLUMNS),
+            ArgumentFault::FeedOnly => err.write_all(FEED_ONLY),
+            ArgumentFault::NewFeed => err.write_all(NEW_FEED),
             ArgumentFault::Memory => err.write_all(b"mrep: out of memory\n"),
         }
     }

@@ -164,6 +164,20 @@ const ONLY: Argument = Argument(
     "Keep only the rows of this table; may be repeated. Without it: of the tables that the database was made for, or of all tables for a new database",
 );
 
+/// That no rows are kept.
+const FEED_ONLY: Argument = Argument(
+    "feed-only",
+    Kind::Flag,
+    "Keep no rows, for a database that is new or was made so: their changes go to the file of --changes, and the database has what is executed. SCHEMA.* in --only means all tables of a schema",
+);
+
+/// That another file of changes is begun.
+const NEW_FEED: Argument = Argument(
+    "new-feed",
+    Kind::Flag,
+    "With --feed-only, begin a new file of changes where the database has executed something: the files in order are the feed",
+);
+
 /// The file of the status.
 const STATUS: Argument = Argument(
     "status",
@@ -211,6 +225,8 @@ static READING: [CommandRow; 5] = [
             CHANGE_COLUMNS,
             BYTES,
             ONLY,
+            FEED_ONLY,
+            NEW_FEED,
             STATUS,
             UNTIL,
             Argument(
@@ -266,6 +282,8 @@ static READING: [CommandRow; 5] = [
             CHANGE_COLUMNS,
             BYTES,
             ONLY,
+            FEED_ONLY,
+            NEW_FEED,
             STATUS,
             UNTIL,
         ],

@@ -87,6 +87,22 @@ impl Feed {
         self.file.is_none()
     }
 
+    /// Whether the feed goes to a file on a disk.
+    pub fn is_on_disk(&self) -> bool {
+        match &self.file {
+            Some(file) => file.can_cut(),
+            None => false,
+        }
+    }
+
+    /// Whether the feed goes to a file that has nothing yet.
+    pub fn is_empty(&self) -> bool {
+        match &self.file {
+            Some(file) => file.is_empty(),
+            None => false,
+        }
+    }
+
     /// Writes an entry: to a file, all of it or nothing. When the changes of a transaction are written, a file has them on
     /// its disk. An executed set that the last line of a file has already is not written again.
     ///

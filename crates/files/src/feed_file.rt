@@ -117,6 +117,11 @@ impl FeedFile {
         Ok(&*room == part)
     }
 
+    /// Whether it has nothing yet.
+    pub fn is_empty(&self) -> bool {
+        is_empty(&self.file)
+    }
+
     /// Whether what was written can be cut off again: it is on a disk.
     pub fn can_cut(&self) -> bool {
         self.is_regular

@@ -8,6 +8,7 @@
 mod advice;
 mod details;
 mod fault_name;
+mod kept;
 mod reason;
 mod refused;
 mod statement;
@@ -15,6 +16,7 @@ mod unloadable;
 
 pub use details::Details;
 pub use fault_name::{event_reason, wire_reason};
+pub use kept::{KEEPS_NONE, KEEPS_ROWS, NEW_FEED, NO_FILE};
 pub use reason::{HaltCause, can_skip, write_advice, write_cause, write_end, write_reason};
 pub use refused::write_refused;
 pub use unloadable::{UNFINISHED, write_unloadable};

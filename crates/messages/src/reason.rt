@@ -60,6 +60,8 @@ pub enum HaltCause<'a> {
     Memory,
     /// A first copy of tables has begun and not ended.
     Unfinished,
+    /// The database keeps rows or none, or its file of changes is new, other than the command asks for.
+    Kept,
 }
 
 /// Writes the cause to standard error if the line of an end leaves it out: the stream or the database file, and the
@@ -115,6 +117,9 @@ fn write_halted<W: Write>(stream: Shown<'_>, halt: HaltCause<'_>, out: &mut W) -
         }
         HaltCause::Memory => out.write_all(b"memory ran out for the set that is waited for\n"),
         HaltCause::Unfinished => out.write_all(b"a first copy of tables is unfinished\n"),
+        HaltCause::Kept => {
+            out.write_all(b"the database or its file of changes is another than asked for\n")
+        }
     }
 }
 

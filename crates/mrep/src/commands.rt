@@ -6,7 +6,7 @@ pub mod abandon;
 pub mod account;
 pub mod clear;
 pub mod copy;
-pub mod export_command;
+pub mod export_file;
 pub mod follow;
 pub mod listing;
 pub mod load;
@@ -21,7 +21,7 @@ pub mod verify;
 use crate::commands::abandon::abandon;
 use crate::commands::clear::clear;
 use crate::commands::copy::copy;
-use crate::commands::export_command::export;
+use crate::commands::export_file::export;
 use crate::commands::follow::follow;
 use crate::commands::listing::list;
 use crate::commands::load::load;
@@ -161,7 +161,9 @@ fn run_matches<'a, O: Write, E: Write>(
     if reads_input_again(given) {
         return Err(mistake(rt.alloc(), input_again(command)));
     }
-    note_patterns(given.get_strs("only").unwrap_or(&[]), err);
+    if !given.get_flag("feed-only") {
+        note_patterns(given.get_strs("only").unwrap_or(&[]), err);
+    }
     let done = match run_named(rt, name, given, out, err) {
         Ok(Some(status)) => flushed(status, out, err),
         Ok(None) => Err(mistake(rt.alloc(), no_command(command))),

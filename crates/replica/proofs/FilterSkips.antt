@@ -1,15 +1,15 @@
 -- Changes of tables that the filter leaves out are skipped.
-use Rattle.replica.proofs.Names.{◌≡◌, Bool, true, false, List, [], ◌∷◌, ◌++◌, map, flat_map, refl, sym, subst, ◌∙◌, MatchBool, Names, admits, TableValue, ChangeValue, Bag, Content, IsMade, is_admitted, AreDone, HasOutcome, done, PartValue, ScriptValue, transaction}
+use Rattle.replica.proofs.Names.{◌≡◌, Bool, true, false, List, [], ◌∷◌, ◌++◌, map, flat_map, refl, sym, subst, ◌∙◌, MatchBool, Names, admits, is_read, TableValue, ChangeValue, Bag, Content, IsMade, is_admitted, AreDone, HasOutcome, done, PartValue, ScriptValue, transaction}
 use Rattle.std.proofs.Common.{if◌then◌else◌}
 use Rattle.std.specs.FinSet as set
 use Rattle.binlog.specs.Rows.{PairValue, inserted, deleted, updated}
-use Rattle.binlog.proofs.TableSets.{all_follow}
+use Rattle.binlog.proofs.TableSets.{all_read, not_read}
 use Rattle.gather.specs.Transaction.{change_of}
 use Rattle.replica.specs.Resume.{part_changes}
 
--- a replica without a list follows all tables
+-- a replica without a list reads all tables
 pub all_changes : (part : PartValue) → part_changes set.empty part ≡ map (change_of part.table) part.pairs
-all_changes part = rw (all_follow part.table.schema part.table.table) refl
+all_changes part = rw (all_read part.table.schema part.table.table) refl
 
 by_table : (names : Names) (t : TableValue) (pair : PairValue) → is_admitted names (change_of t pair) ≡ admits names t.schema t.table
 by_table names t (inserted after) = refl
@@ -45,15 +45,15 @@ both names (x ∷ xs) ys old mid new a b = (a.0, a.1, both names xs ys a.0 mid n
 
 -- ---- A part.
 
-without : (names : Names) (part : PartValue) (admitted : Bool) (old new : Bag) → admits names part.table.schema part.table.table ≡ admitted → AreDone names (map (change_of part.table) part.pairs) old new
-    → AreDone names (if admitted then map (change_of part.table) part.pairs else []) old new
+without : (names : Names) (part : PartValue) (read : Bool) (old new : Bag) → is_read names part.table.schema part.table.table ≡ read → AreDone names (map (change_of part.table) part.pairs) old new
+    → AreDone names (if read then map (change_of part.table) part.pairs else []) old new
 without names part true old new is h = h
-without names part false old new is h = passed names part.table part.pairs old new is h
+without names part false old new is h = passed names part.table part.pairs old new (not_read names part.table.schema part.table.table is) h
 
-within : (names : Names) (part : PartValue) (admitted : Bool) (old new : Bag) → admits names part.table.schema part.table.table ≡ admitted
-    → AreDone names (if admitted then map (change_of part.table) part.pairs else []) old new → AreDone names (map (change_of part.table) part.pairs) old new
+within : (names : Names) (part : PartValue) (read : Bool) (old new : Bag) → is_read names part.table.schema part.table.table ≡ read
+    → AreDone names (if read then map (change_of part.table) part.pairs else []) old new → AreDone names (map (change_of part.table) part.pairs) old new
 within names part true old new is h = h
-within names part false old new is h = subst (λ m. AreDone names (map (change_of part.table) part.pairs) old m) (sym h) (passing names part.table part.pairs old is)
+within names part false old new is h = subst (λ m. AreDone names (map (change_of part.table) part.pairs) old m) (sym h) (passing names part.table part.pairs old (not_read names part.table.schema part.table.table is))
 
 -- ---- All parts.
 
@@ -62,7 +62,7 @@ parts_without names [] old new h = h
 parts_without names (part ∷ parts) old new h =
     let t = halved names (part_changes set.empty part) (flat_map (part_changes set.empty) parts) old new h in
     both names (part_changes names part) (flat_map (part_changes names) parts) old t.mid new
-    (without names part (admits names part.table.schema part.table.table) old t.mid refl (subst (λ l. AreDone names l old t.mid) (all_changes part) t.first))
+    (without names part (is_read names part.table.schema part.table.table) old t.mid refl (subst (λ l. AreDone names l old t.mid) (all_changes part) t.first))
     (parts_without names parts t.mid new t.second)
 
 parts_within : (names : Names) (parts : List PartValue) (old new : Bag) → AreDone names (flat_map (part_changes names) parts) old new → AreDone names (flat_map (part_changes set.empty) parts) old new
@@ -70,7 +70,7 @@ parts_within names [] old new h = h
 parts_within names (part ∷ parts) old new h =
     let t = halved names (part_changes names part) (flat_map (part_changes names) parts) old new h in
     both names (part_changes set.empty part) (flat_map (part_changes set.empty) parts) old t.mid new
-    (subst (λ l. AreDone names l old t.mid) (sym (all_changes part)) (within names part (admits names part.table.schema part.table.table) old t.mid refl t.first))
+    (subst (λ l. AreDone names l old t.mid) (sym (all_changes part)) (within names part (is_read names part.table.schema part.table.table) old t.mid refl t.first))
     (parts_within names parts t.mid new t.second)
 
 pub whole_or_not : (names : Names) (script : ScriptValue) (old new : Content)

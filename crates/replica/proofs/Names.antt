@@ -1,7 +1,7 @@
 -- The names of other modules that the proofs use, in one place.
 pub use Rattle.binlog.specs.Cell.{CellValue}
 pub use Rattle.binlog.specs.Event.{EventValue, IsEvent}
-pub use Rattle.binlog.specs.Filter.{Names, admits, Name}
+pub use Rattle.binlog.specs.Filter.{Names, admits, is_read, Name}
 pub use Rattle.binlog.specs.FilterView.{name_list}
 pub use Rattle.binlog.specs.Table.{TableValue}
 pub use Rattle.byteorder.specs.Endian.{little_bytes}

@@ -1,5 +1,5 @@
 -- The events of scripts, as a replica reads them that follows some tables, and the transactions in them.
-use Rattle.replica.proofs.Names.{◌≡◌, ℕ, Bool, true, false, not, List, [], ◌∷◌, ◌++◌, map, flat_map, refl, sym, ap, subst, ◌∙◌, inl, inr, Option, Some, None, map-append, AllByRecursion, Names, admits, TableValue, EventValue, ChangeValue, AreDeliveries, PartValue, ScriptValue, CanSend, events_of, transaction, transactions}
+use Rattle.replica.proofs.Names.{◌≡◌, ℕ, Bool, true, false, not, List, [], ◌∷◌, ◌++◌, map, flat_map, refl, sym, ap, subst, ◌∙◌, inl, inr, Option, Some, None, map-append, AllByRecursion, Names, is_read, TableValue, EventValue, ChangeValue, AreDeliveries, PartValue, ScriptValue, CanSend, events_of, transaction, transactions}
 use Rattle.std.proofs.Common.{filter, if◌then◌else◌}
 use Rattle.std.proofs.lemmas.Bool.{eq-eqb}
 use Rattle.std.proofs.lemmas.List.Elements.{filter-append}
@@ -27,7 +27,7 @@ seen names neutral = neutral
 seen names stop = stop
 seen names (rotate position name) = rotate position name
 seen names (gtid source number) = gtid source number
-seen names (table_map t) = map_seen (admits names t.schema t.table) t
+seen names (table_map t) = map_seen (is_read names t.schema t.table) t
 seen names (other_map id) = other_map id
 seen names (rows r) = rows r
 seen names (xid number) = xid number
@@ -95,7 +95,7 @@ row_changes false part fits = refl
 are_changes : (names : Names) (before : List EventValue) (parts : List PartValue) → AllByRecursion CanSendPart parts → AreChanges before (flat_map (seen_part names) parts) (flat_map (part_changes names) parts)
 are_changes names before [] can = refl
 are_changes names before (part ∷ parts) can =
-    let f = admits names part.table.schema part.table.table in
+    let f = is_read names part.table.schema part.table.table in
     let map_event = map_seen f part.table in
     let after = before ++ map_event ∷ [] in (
       [],
@@ -146,7 +146,7 @@ map_counts false t events = refl
 parts_count : (names : Names) (parts : List PartValue) → filter counts (flat_map (seen_part names) parts) ≡ flat_map (seen_part names) parts
 parts_count names [] = refl
 parts_count names (part ∷ parts) =
-    let f = admits names part.table.schema part.table.table in
+    let f = is_read names part.table.schema part.table.table in
     map_counts f part.table (rows (rows_of part) ∷ flat_map (seen_part names) parts) ∙ ap (λ l. map_seen f part.table ∷ rows (rows_of part) ∷ l) (parts_count names parts)
 
 end_counts : (ending : Ending) (number : ℕ) → filter counts (end_event ending number ∷ []) ≡ end_event ending number ∷ []

@@ -1,5 +1,5 @@
 -- The payloads of a scripted source, as a replica reads them.
-use Rattle.replica.proofs.Names.{◌≡◌, ℕ, ◌+◌, ◌<◌, ◌≤◌, Bool, true, false, List, [], ◌∷◌, ◌++◌, length, map, flat_map, refl, sym, ap, subst, ◌∙◌, append_assoc, inl, arith, length-append, AllByRecursion, packing_length, IsWholePayload, Payload, length_packing, Names, admits, TableValue, EventValue, IsEvent, IsFromBytes, Due, Hello, SecondReply, QueryReply, InDump, next_due, next_id, due_from, due_after, Carries, Answers, Talks, ScriptValue, PartValue, events_of, CanSend}
+use Rattle.replica.proofs.Names.{◌≡◌, ℕ, ◌+◌, ◌<◌, ◌≤◌, Bool, true, false, List, [], ◌∷◌, ◌++◌, length, map, flat_map, refl, sym, ap, subst, ◌∙◌, append_assoc, inl, arith, length-append, AllByRecursion, packing_length, IsWholePayload, Payload, length_packing, Names, is_read, TableValue, EventValue, IsEvent, IsFromBytes, Due, Hello, SecondReply, QueryReply, InDump, next_due, next_id, due_from, due_after, Carries, Answers, Talks, ScriptValue, PartValue, events_of, CanSend}
 use Rattle.std.proofs.Common.{if◌then◌else◌}
 use Rattle.wire.specs.Packet.{IsPacking}
 use Rattle.wire.proofs.OnePacking.{none_begins}
@@ -17,7 +17,7 @@ use Rattle.replica.proofs.ScriptEvents.{map_seen, seen}
 
 -- ---- Events.
 
-map_read : (names : Names) (t : TableValue) (bytes : List ℕ) (followed : Bool) → admits names t.schema t.table ≡ followed → IsEvent set.empty (table_map t) bytes → IsEvent names (map_seen followed t) bytes
+map_read : (names : Names) (t : TableValue) (bytes : List ℕ) (followed : Bool) → is_read names t.schema t.table ≡ followed → IsEvent set.empty (table_map t) bytes → IsEvent names (map_seen followed t) bytes
 map_read names t bytes true is w = record { code = w.code; may_ignore = w.may_ignore; body = w.body; framed = w.framed; has_body = (w.has_body.0, w.has_body.1, is) }
 map_read names t bytes false is w = record {
   code = w.code;
@@ -28,18 +28,18 @@ map_read names t bytes false is w = record {
 }
 
 -- what is written of an event is read back, whichever tables the reader follows
-pub is_read : (names : Names) (e : EventValue) → IsWritable e → IsEvent names (seen names e) (event_bytes e)
-is_read names format is = let w = written format is in record { code = w.code; may_ignore = w.may_ignore; body = w.body; framed = w.framed; has_body = w.has_body }
-is_read names begin is = let w = written begin is in record { code = w.code; may_ignore = w.may_ignore; body = w.body; framed = w.framed; has_body = w.has_body }
-is_read names commit is = let w = written commit is in record { code = w.code; may_ignore = w.may_ignore; body = w.body; framed = w.framed; has_body = w.has_body }
-is_read names neutral is = let w = written neutral is in record { code = w.code; may_ignore = w.may_ignore; body = w.body; framed = w.framed; has_body = w.has_body }
-is_read names stop is = let w = written stop is in record { code = w.code; may_ignore = w.may_ignore; body = w.body; framed = w.framed; has_body = w.has_body }
-is_read names (rotate position name) is = let w = written (rotate position name) is in record { code = w.code; may_ignore = w.may_ignore; body = w.body; framed = w.framed; has_body = w.has_body }
-is_read names (gtid source number) is = let w = written (gtid source number) is in record { code = w.code; may_ignore = w.may_ignore; body = w.body; framed = w.framed; has_body = w.has_body }
-is_read names (table_map t) is = map_read names t (event_bytes (table_map t)) (admits names t.schema t.table) refl (written (table_map t) is)
-is_read names (other_map id) is = absurd (no_other_map id is)
-is_read names (rows r) is = let w = written (rows r) is in record { code = w.code; may_ignore = w.may_ignore; body = w.body; framed = w.framed; has_body = w.has_body }
-is_read names (xid number) is = let w = written (xid number) is in record { code = w.code; may_ignore = w.may_ignore; body = w.body; framed = w.framed; has_body = w.has_body }
+pub event_read : (names : Names) (e : EventValue) → IsWritable e → IsEvent names (seen names e) (event_bytes e)
+event_read names format is = let w = written format is in record { code = w.code; may_ignore = w.may_ignore; body = w.body; framed = w.framed; has_body = w.has_body }
+event_read names begin is = let w = written begin is in record { code = w.code; may_ignore = w.may_ignore; body = w.body; framed = w.framed; has_body = w.has_body }
+event_read names commit is = let w = written commit is in record { code = w.code; may_ignore = w.may_ignore; body = w.body; framed = w.framed; has_body = w.has_body }
+event_read names neutral is = let w = written neutral is in record { code = w.code; may_ignore = w.may_ignore; body = w.body; framed = w.framed; has_body = w.has_body }
+event_read names stop is = let w = written stop is in record { code = w.code; may_ignore = w.may_ignore; body = w.body; framed = w.framed; has_body = w.has_body }
+event_read names (rotate position name) is = let w = written (rotate position name) is in record { code = w.code; may_ignore = w.may_ignore; body = w.body; framed = w.framed; has_body = w.has_body }
+event_read names (gtid source number) is = let w = written (gtid source number) is in record { code = w.code; may_ignore = w.may_ignore; body = w.body; framed = w.framed; has_body = w.has_body }
+event_read names (table_map t) is = map_read names t (event_bytes (table_map t)) (is_read names t.schema t.table) refl (written (table_map t) is)
+event_read names (other_map id) is = absurd (no_other_map id is)
+event_read names (rows r) is = let w = written (rows r) is in record { code = w.code; may_ignore = w.may_ignore; body = w.body; framed = w.framed; has_body = w.has_body }
+event_read names (xid number) is = let w = written (xid number) is in record { code = w.code; may_ignore = w.may_ignore; body = w.body; framed = w.framed; has_body = w.has_body }
 
 -- ---- The events of scripts can be written.
 
@@ -94,7 +94,7 @@ talks_events limit names id (e ∷ events) x last writable short a = (
   a.3,
   refl,
   record { packing = a.4; within = short.0 },
-  (seen names e, record { body = event_bytes e; payload_is = refl; is_event = is_read names e writable.0 }, refl),
+  (seen names e, record { body = event_bytes e; payload_is = refl; is_event = event_read names e writable.0 }, refl),
   talks_events limit names a.2 events a.1 last writable.1 short.1 a.5,
 )
 
@@ -190,6 +190,6 @@ are_read names id [] x last writable bytes a = tt
 are_read names id (e ∷ events) x last writable bytes a =
     let both : AllByRecursion (λ b. b < 256) (a.0 ++ a.1) = subst (λ l. AllByRecursion (λ b. b < 256) l) a.3 bytes in
     let own : AllByRecursion (λ b. b < 256) (payload_of e) = packed_bytes id (payload_of e) a.0 a.2 a.4 (all_front (λ b. b < 256) a.0 a.1 both) in (
-      record { names = names; bytes = event_bytes e; fits = own.1; is_event = is_read names e writable.0 },
+      record { names = names; bytes = event_bytes e; fits = own.1; is_event = event_read names e writable.0 },
       are_read names a.2 events a.1 last writable.1 (all_back (λ b. b < 256) a.0 a.1 both) a.5,
     )

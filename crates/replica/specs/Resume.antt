@@ -4,7 +4,7 @@ use Rattle.std.specs.Prelude.{◌≡◌, ℕ, ◌+◌, ◌^◌, ◌<◌, ◌≤�
 use Rattle.std.specs.List.{AllByRecursion}
 use Rattle.wire.specs.Packet.{largest_payload}
 use Rattle.greet.specs.Message.{DumpValue}
-use Rattle.binlog.specs.Filter.{Names, admits}
+use Rattle.binlog.specs.Filter.{Names, is_read}
 use Rattle.gather.specs.Transaction.{ChangeValue, DeliveryValue, change_of}
 use Rattle.store.specs.State.{Content}
 use Rattle.store.specs.Open.{nothing}
@@ -21,7 +21,7 @@ use Rattle.wire.specs.Payload.{Payload}
 
 -- the changes of a part: none if the filter leaves its table out
 abbrev pub part_changes : Names → PartValue → List ChangeValue
-part_changes names part = if admits names part.table.schema part.table.table then map (change_of part.table) part.pairs else []
+part_changes names part = if is_read names part.table.schema part.table.table then map (change_of part.table) part.pairs else []
 
 abbrev pub transaction : Names → ScriptValue → DeliveryValue
 transaction names script = record { source = script.source; number = script.number; changes = flat_map (part_changes names) script.parts }

@@ -7,7 +7,7 @@ ghost use Rattle.replica.specs.Noted.{Account, Excludes, HasNotices, HasNoNotice
 ghost use Rattle.replica.specs.Missing.{waits_for_none};
 
 use crate::session::end::{Ended, Reason};
-use binlog::Event;
+use binlog::{Event, Follow};
 use gather::Delivery;
 use gtid::GtidSet;
 
@@ -17,8 +17,8 @@ pub trait Observer {
     // for, and whether it stops for a first copy that has not ended.
     ghost account: { Self → Account };
 
-    /// Called once with the executed set of a database file, before anything is read.
-    fn opened(&mut self, executed: &GtidSet)
+    /// Called once with the executed set and the filter of a database file, before anything is read.
+    fn opened(&mut self, executed: &GtidSet, following: &Follow)
         ensures noticed { HasNotices (account self.old) (account self.new) (opened executed.now ∷ []) }
         ensures excludes { Excludes (account self.old) executed.now (account self.new) }
         ensures seen { (account self.new).seen ≡ (account self.old).seen };
@@ -93,7 +93,7 @@ impl Observer for Unobserved {
       excludes = false;
     } };
 
-    fn opened(&mut self, _executed: &GtidSet) {}
+    fn opened(&mut self, _executed: &GtidSet, _following: &Follow) {}
 
     fn event(&mut self, _event: &Event<'_>, _bytes: &[u8], _pending: usize) {}
 

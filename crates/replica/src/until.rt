@@ -7,7 +7,7 @@ ghost use Rattle.replica.specs.Missing.{is_over, IsLeftOf};
 
 use crate::observer::Observer;
 use crate::session::end::{Ended, Reason};
-use binlog::Event;
+use binlog::{Event, Follow};
 use gather::Delivery;
 use gtid::GtidSet;
 use std::alloc::Global;
@@ -114,8 +114,8 @@ impl<W: Observer> Observer for Until<W> {
       excludes = (W.account u.inner).excludes;
     } };
 
-    fn opened(&mut self, executed: &GtidSet) {
-        self.inner.opened(executed);
+    fn opened(&mut self, executed: &GtidSet, following: &Follow) {
+        self.inner.opened(executed, following);
         self.missing = without(self.missing.take(), executed);
     }
 

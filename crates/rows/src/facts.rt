@@ -1,12 +1,15 @@
 //! What is known of a database as a whole.
 
 use crate::json_lines::write_json_name;
-use binlog::Follow;
-use formats::{Format, text_of, write_table};
+use binlog::{Follow, meant};
+use formats::{Format, text_of, write_name, write_table};
 use gtid::{Gtid, GtidSet};
 use std::alloc::Global;
 use std::io;
 use std::io::Write;
+
+/// What stands for each name, and for each schema.
+const STAR: &[u8] = b"*";
 
 /// The layout that a database has once it was opened.
 const LAYOUT: u64 = 2;
@@ -62,16 +65,20 @@ pub fn write_facts<W: Write>(
     }
     write!(out, ",\"file\":{file},\"wal\":{wal},\"only\":")?;
     write_only(alloc, facts.following, out)?;
+    if !facts.following.keeps_rows() {
+        out.write_all(b",\"feed_only\":true")?;
+    }
     out.write_all(b",\"tables\":[")
 }
 
-/// Writes the tables of a filter as JSON: `null` where it admits all.
+/// Writes the tables of a filter as JSON: `null` where they are all.
 fn write_only<W: Write>(alloc: Global, filter: &Follow, out: &mut W) -> io::Result<()> {
-    if filter.names().is_empty() {
+    if filter.names().is_empty() || filter.reads(STAR, STAR) && !filter.keeps_rows() {
         return out.write_all(b"null");
     }
     let mut before = "[";
-    for (schema, table) in filter.names() {
+    for name in filter.names() {
+        let (schema, table) = meant(name).unwrap_or((&name.0, &name.1));
         out.write_all(before.as_bytes())?;
         write_members(alloc, schema, table, out)?;
         out.write_all(b"}")?;
@@ -93,15 +100,33 @@ pub(crate) fn write_members<W: Write>(
     write_json_name(alloc, table, out)
 }
 
-/// Writes `only` and the name of each table of a filter, or `all`.
+/// Writes `only` and the name of each table of a filter, or `all`; where no rows are kept `feed-only` before that.
 pub(crate) fn write_filter<W: Write>(filter: &Follow, out: &mut W) -> io::Result<()> {
     if filter.names().is_empty() {
         return writeln!(out, "all");
     }
-    for (schema, table) in filter.names() {
-        write!(out, "only ")?;
-        write_table(schema, table, out)?;
+    for name in filter.names() {
+        match meant(name) {
+            Some((schema, table)) => write_read(schema, table, out)?,
+            None => {
+                write!(out, "only ")?;
+                write_table(&name.0, &name.1, out)?;
+            }
+        }
         writeln!(out)?;
     }
     Ok(())
+}
+
+/// Writes the name of tables that are read and not kept.
+fn write_read<W: Write>(schema: &[u8], table: &[u8], out: &mut W) -> io::Result<()> {
+    out.write_all(b"feed-only ")?;
+    match (schema, table) {
+        (b"*", b"*") => out.write_all(b"all"),
+        (_, b"*") => {
+            write_name(schema, out)?;
+            out.write_all(b".*")
+        }
+        _ => write_table(schema, table, out),
+    }
 }

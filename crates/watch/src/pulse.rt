@@ -7,6 +7,7 @@ use gtid::{Gtid, GtidSet};
 use messages::write_reason;
 use replica::Ended;
 use std::alloc::Global;
+use std::cell::Cell;
 use std::io::Write;
 
 /// Lines of progress and the status, where they are asked for. It is shared by what observes the reading and the socket.
@@ -16,6 +17,8 @@ pub struct Pulse {
     status: Option<Status>,
     /// The name of the file of the status.
     file: String,
+    /// Whether the database may not be used by the command.
+    is_refused: Cell<bool>,
 }
 
 impl Pulse {
@@ -25,7 +28,18 @@ impl Pulse {
             progress,
             status,
             file,
+            is_refused: Cell::new(false),
         }
+    }
+
+    /// The database was opened, and may not be used by the command.
+    pub fn refuse(&self) {
+        self.is_refused.set(true);
+    }
+
+    /// Whether that is so.
+    pub fn is_refused(&self) -> bool {
+        self.is_refused.get()
     }
 
     /// Whether there are lines of progress.

@@ -3,7 +3,7 @@
 ghost use Rattle.std.specs.Prelude.{◌≡◌, true, is_some, None};
 
 use crate::watch::is_stopped_by;
-use binlog::Event;
+use binlog::{Event, Follow};
 use feed::{SkipError, SkipFeed, Skipping};
 use files::FileFault;
 use formats::text_of;
@@ -87,7 +87,7 @@ impl Observer for SkipWatch<'_> {
       excludes = true;
     } };
 
-    fn opened(&mut self, executed: &GtidSet) {
+    fn opened(&mut self, executed: &GtidSet, _following: &Follow) {
         if is_stopped_by(executed, false) {
             self.stop = Some(SkipStop::Unfinished);
         } else {

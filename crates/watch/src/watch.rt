@@ -5,7 +5,7 @@ ghost use Rattle.replica.specs.Marks.{NoneUnfinished};
 
 use crate::map_names::names_in_map;
 use crate::pulse::Pulse;
-use binlog::Event;
+use binlog::{Event, Follow};
 use feed::{Feed, FeedEntry, OUTPUT, Stamps};
 use formats::{Shown, text_of};
 use gather::Delivery;
@@ -27,6 +27,12 @@ pub enum WatchStop {
     Misfit(Misfit),
     /// A first copy of tables has begun in the database, and not ended.
     Unfinished,
+    /// The database keeps no rows, and the command is for one that does.
+    KeepsNone,
+    /// The database keeps rows, and the command is for one that does not.
+    KeepsRows,
+    /// The file of changes has nothing, and the database, which keeps no rows, has executed something.
+    NewFeed,
 }
 
 impl WatchStop {
@@ -65,6 +71,10 @@ pub struct Source<'a> {
     pub changes: &'a str,
     /// Whether it is a first copy of tables, which alone may go on where one has begun and not ended.
     pub is_copy: bool,
+    /// Whether the database keeps no rows.
+    pub feed_only: bool,
+    /// Whether the file of changes may have nothing where such a database has executed something.
+    pub new_feed: bool,
 }
 
 /// What is reported, where it is asked for.
@@ -170,6 +180,27 @@ impl<'a, O: Write, E: Write> Watch<'a, O, E> {
         }
     }
 
+    /// Why the command may not use the database, which keeps the rows of the tables of this filter, or its file of changes.
+    fn refusal(&self, executed: &GtidSet, following: &Follow) -> Option<WatchStop> {
+        if !self.source.feed_only {
+            return if following.keeps_rows() {
+                None
+            } else {
+                Some(WatchStop::KeepsNone)
+            };
+        }
+        if following.keeps_rows() {
+            return Some(WatchStop::KeepsRows);
+        }
+        if self.source.new_feed || executed.is_subset(&GtidSet::new(self.source.rt.alloc())) {
+            return None;
+        }
+        match &self.feed {
+            Some(feed) if feed.is_empty() => Some(WatchStop::NewFeed),
+            _ => None,
+        }
+    }
+
     /// Takes the executed set at the start, which the feed has from here on where no source has to be reached.
     fn begin(&mut self, executed: &GtidSet)
         ensures { is_some self.old.stop ≡ true → is_some self.new.stop ≡ true }
@@ -232,6 +263,9 @@ impl<'a, O: Write, E: Write> Watch<'a, O, E> {
         match self.stop {
             Some(WatchStop::Misfit(_)) => HaltCause::Misfit,
             Some(WatchStop::Unfinished) => HaltCause::Unfinished,
+            Some(WatchStop::KeepsNone | WatchStop::KeepsRows | WatchStop::NewFeed) => {
+                HaltCause::Kept
+            }
             Some(_) if self.source.changes == OUTPUT => HaltCause::Output,
             Some(_) => HaltCause::Feed(self.source.changes),
             None => HaltCause::Memory,
@@ -299,9 +333,19 @@ impl<'a, O: Write, E: Write> Watch<'a, O, E> {
         self.pulse.write_status(self.source.rt, self.err);
     }
 
-    /// Why reading was stopped, if it was.
+    /// Why reading was stopped, if it was. Where that was at once, the file that the change feed has made is removed.
     pub fn stop(self) -> Option<WatchStop> {
-        let Watch { stop, .. } = self;
+        let Watch {
+            source,
+            feed,
+            stop,
+            ..
+        } = self;
+        if let Some(WatchStop::KeepsNone | WatchStop::KeepsRows | WatchStop::NewFeed) = stop
+            && let Some(feed) = feed
+        {
+            feed.discard(source.rt, source.changes);
+        }
         stop
     }
 }
@@ -315,10 +359,13 @@ impl<'a, O: Write, E: Write> Observer for Watch<'a, O, E> {
       excludes = not w.source.is_copy;
     } };
 
-    fn opened(&mut self, executed: &GtidSet) {
+    fn opened(&mut self, executed: &GtidSet, following: &Follow) {
         self.pulse.opened(executed);
         if is_stopped_by(executed, self.source.is_copy) {
             self.stop = Some(WatchStop::Unfinished);
+        } else if let Some(stop) = self.refusal(executed, following) {
+            self.stop = Some(stop);
+            self.pulse.refuse();
         } else {
             self.begin(executed);
         }

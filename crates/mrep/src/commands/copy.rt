@@ -6,7 +6,7 @@
 
 ghost use Rattle.std.specs.Prelude.{◌≡◌, IfOk};
 
-use crate::commands::export_command::fill_tables;
+use crate::commands::export_file::fill_tables;
 use crate::database::open::{lock, test};
 use crate::report::failure::{DONE, Failure, of_system, over_file, unusable};
 use clap::ArgMatches;

@@ -189,7 +189,7 @@ impl Following {
         let until = wanted.until(rt.alloc())?;
         let server_id = parse_number("--server-id", word(given, "server-id"), u32::MAX);
         let server_id = over_argument(rt.alloc(), server_id)?;
-        let only = wanted.filter(rt.alloc())?;
+        let only = wanted.only(rt)?;
         let config = settings(rt, given, options, server_id)?;
         Ok(Following {
             only,
@@ -263,9 +263,9 @@ impl<'r> Connect for Host<'r, '_> {
 
     ghost gives = { λ _ _ _. ⊤ };
 
-    /// The source is not reached where a first copy is unfinished.
+    /// The source is not reached where a first copy is unfinished, or the database may not be used.
     fn connect(self, executed: &GtidSet) -> io::Result<Socket<'r>> {
-        if unfinished_copy(executed).is_some() {
+        if unfinished_copy(executed).is_some() || self.pulse.is_refused() {
             return Err(io::ErrorKind::Other.into());
         }
         match TcpStream::connect(self.rt, (unbracketed(self.name), self.port)) {

@@ -123,7 +123,7 @@ impl Replaying {
     /// Opens the streams, and reads a byte of each.
     fn of(rt: &HostRuntime, wanted: &Wanted<'_, '_>, names: &[&str]) -> Result<Replaying, Failure> {
         let until = wanted.until(rt.alloc())?;
-        let only = wanted.filter(rt.alloc())?;
+        let only = wanted.only(rt)?;
         let (captures, total) = open_streams(rt, names)?;
         let Ok(config) = Config::new(rt.alloc(), b"", b"", SERVER_ID, false, LARGEST_PAYLOAD) else {
             return Err(Failure::Memory);

@@ -1,6 +1,7 @@
 //! The rows of a database as those of tables of another.
 
 use crate::database::open::{listed, unopened_copy};
+use crate::database::reading::RowsOf;
 use crate::report::failure::{Failure, of_database, of_misfit};
 use binlog::Follow;
 use export::{Export, ExportTables, ExportedRows, TableError, note_left_out};
@@ -112,11 +113,14 @@ fn give_rows<T: Alter>(
     added: &mut Added<'_, '_, T>,
 ) -> Result<(), Failure> {
     let ExportedCopy { copy, to, db, .. } = source;
-    let done = match in_file(rt, copy, Unknown, 0, None, added) {
+    let mut rows = RowsOf::new(added);
+    let done = match in_file(rt, copy, Unknown, 0, None, &mut rows) {
         Ok(done) => done,
         Err(unopened) => return Err(unopened_copy(rt, copy, to, db, unopened)),
     };
-    match listed(rt.alloc(), db, to, done)? {
+    let given = listed(rt.alloc(), db, to, done)?;
+    rows.are_kept(rt.alloc(), db)?;
+    match given {
         Ok(()) => Ok(()),
         Err(error) => Err(of_table(rt.alloc(), [db, to], error)),
     }

@@ -1,6 +1,6 @@
 //! The rows of a database, in one of the formats, and how many there are of each table.
 
-use crate::database::reading::list_in;
+use crate::database::reading::{list_in, list_rows_in};
 use crate::report::failure::{Failure, of_row};
 use binlog::Follow;
 use formats::{Encoding, Format};
@@ -53,7 +53,7 @@ fn print_lines<W: Write>(
     out: &mut W,
 ) -> Result<Chosen, Failure> {
     let mut rows = TextRows::new(chosen, out);
-    list_in(rt, name, &mut rows)??;
+    list_rows_in(rt, name, &mut rows)??;
     Ok(rows.chosen())
 }
 
@@ -65,7 +65,7 @@ fn print_objects<W: Write>(
     out: &mut W,
 ) -> Result<(), Failure> {
     let mut objects = Objects::new(rt.alloc(), selection, out);
-    list_in(rt, name, &mut objects)??;
+    list_rows_in(rt, name, &mut objects)??;
     Ok(())
 }
 
@@ -81,7 +81,7 @@ fn print_records<W: Write>(
         selection,
         records: Records::new(out),
     };
-    list_in(rt, name, &mut all)??;
+    list_rows_in(rt, name, &mut all)??;
     let CsvRows {
         selection,
         mut records,
@@ -117,7 +117,7 @@ fn print_typed<W: Write>(
     out: &mut W,
 ) -> Result<(), Failure> {
     let mut all = Typed::new(rt.alloc(), tables, selection, out);
-    match list_in(rt, name, &mut all)? {
+    match list_rows_in(rt, name, &mut all)? {
         Ok(()) => Ok(()),
         Err(error) => Err(of_row(rt.alloc(), name, error)),
     }

@@ -9,11 +9,12 @@ use crate::report::failure::{Failure, over_file, unusable};
 use binlog::Follow;
 use files::{CopyPart, FileFault, FileNames, Found, Owner, make_part, owner_of};
 use gtid::GtidSet;
+use messages::KEEPS_NONE;
 use replica::{InFile, Unopened, in_file};
 use sqlite::{Connection, Error, ErrorCode, File};
 use sqlite_disk::Unknown;
 use std::alloc::Global;
-use store::Lister;
+use store::{Listed, Lister, Visitor};
 
 /// How many processes may read copies of one database at a time.
 const READERS: u32 = 64;
@@ -36,6 +37,64 @@ pub fn list_in<L: Lister>(
         Found::Database => list_database(rt, name, lister),
         Found::Unmerged => list_copy(rt, name, lister),
         Found::Foreign => Err(unusable(rt.alloc(), name, FOREIGN)),
+    }
+}
+
+/// The same, of a lister of rows: a database that keeps none is refused.
+pub fn list_rows_in<L: Lister>(
+    rt: &HostRuntime,
+    name: &str,
+    lister: &mut L,
+) -> Result<Result<(), L::Error>, Failure> {
+    let mut rows = RowsOf::new(lister);
+    let listed = list_in(rt, name, &mut rows)?;
+    rows.are_kept(rt.alloc(), name)?;
+    Ok(listed)
+}
+
+/// A lister of rows, which asks for none where a database keeps none.
+#[derive(Drop)]
+pub struct RowsOf<'l, L> {
+    lister: &'l mut L,
+    keeps_none: bool,
+}
+
+impl<'l, L> RowsOf<'l, L> {
+    pub fn new(lister: &'l mut L) -> RowsOf<'l, L> {
+        RowsOf {
+            lister,
+            keeps_none: false,
+        }
+    }
+
+    /// The failure of a database of this name that keeps none.
+    pub fn are_kept(&self, alloc: Global, name: &str) -> Result<(), Failure> {
+        if self.keeps_none {
+            return Err(unusable(alloc, name, KEEPS_NONE));
+        }
+        Ok(())
+    }
+}
+
+impl<L: Lister> Visitor for RowsOf<'_, L> {
+    type Error = L::Error;
+
+    ghost row_gives = { λ _ _ _ _. Unit {0} };
+
+    fn row(&mut self, row: &Listed<'_>) -> Result<(), L::Error> {
+        self.lister.row(row)
+    }
+}
+
+impl<L: Lister> Lister for RowsOf<'_, L> {
+    ghost begun = { λ _ _ _ _ _. Unit {0} };
+
+    fn begin(&mut self, executed: &GtidSet, following: &Follow) -> Result<bool, L::Error> {
+        if !following.keeps_rows() {
+            self.keeps_none = true;
+            return Ok(false);
+        }
+        self.lister.begin(executed, following)
     }
 }
 

@@ -8,9 +8,10 @@ use binlog::Follow;
 use clap::ArgMatches;
 use command_line::{ArgumentFault, parse_encoding, parse_set, parse_tables, word};
 use feed::{Feed, OUTPUT};
+use files::Found;
 use formats::Format;
 use gtid::GtidSet;
-use messages::UNFINISHED;
+use messages::{KEEPS_NONE, KEEPS_ROWS, NEW_FEED, NO_FILE, UNFINISHED};
 use rows::{Chosen, DescribedTables};
 use std::alloc::Global;
 use std::io::{IsTerminal, Write};
@@ -35,6 +36,10 @@ pub struct Wanted<'g, 'a> {
     status: Option<&'a str>,
     /// The text of the set that is waited for.
     until: Option<&'a str>,
+    /// Whether no rows are kept.
+    feed_only: bool,
+    /// Whether the file of changes may be a new one, where none are kept.
+    new_feed: bool,
 }
 
 /// What was waited for: nothing is known of it where memory ran out.
@@ -45,12 +50,32 @@ pub fn waited(is_out_of_memory: bool) -> Result<(), Failure> {
     Ok(())
 }
 
+/// Whether a database was made already.
+fn is_made(found: Found) -> bool {
+    matches!(found, Found::Database | Found::Unmerged)
+}
+
+/// Whether one of the names means all tables of a schema, where no rows are kept.
+fn has_pattern(filter: &Follow) -> bool {
+    filter
+        .names()
+        .iter()
+        .any(|name| name.1.as_slice() == b"*".as_slice())
+}
+
 impl<'g, 'a> Wanted<'g, 'a> {
     /// What the arguments ask for. A form of bytes is that of a feed.
     pub fn of(alloc: Global, given: &'g ArgMatches<'a>) -> Result<Wanted<'g, 'a>, Failure> {
         let (changes, bytes) = (given.get_str("changes"), given.get_str("bytes"));
         if bytes.is_some() && changes.is_none() {
             return Err(of_argument(alloc, ArgumentFault::Bytes));
+        }
+        let (feed_only, new_feed) = (given.get_flag("feed-only"), given.get_flag("new-feed"));
+        if feed_only && changes.unwrap_or(OUTPUT) == OUTPUT {
+            return Err(of_argument(alloc, ArgumentFault::FeedOnly));
+        }
+        if new_feed && !feed_only {
+            return Err(of_argument(alloc, ArgumentFault::NewFeed));
         }
         Ok(Wanted {
             db: word(given, "db"),
@@ -61,11 +86,31 @@ impl<'g, 'a> Wanted<'g, 'a> {
             columns: given.get_str("columns"),
             status: given.get_str("status"),
             until: given.get_str("until"),
+            feed_only,
+            new_feed,
         })
     }
 
+    /// The filter of the database: of the tables that are named, or, where no rows are kept, of all for a new one. None is that
+    /// of the database.
+    pub fn only(&self, rt: &HostRuntime) -> Result<Option<Follow>, Failure> {
+        let named = self.filter(rt.alloc())?;
+        if !self.feed_only {
+            return Ok(named);
+        }
+        let names = match &named {
+            Some(filter) => filter.names(),
+            None if is_made(Found::under(rt, self.db)) => return Ok(None),
+            None => &[],
+        };
+        match Follow::not_kept(rt.alloc(), names) {
+            Ok(filter) => Ok(Some(filter)),
+            Err(_) => Err(Failure::Memory),
+        }
+    }
+
     /// The filter that the tables make, if any are named.
-    pub fn filter(&self, alloc: Global) -> Result<Option<Follow>, Failure> {
+    fn filter(&self, alloc: Global) -> Result<Option<Follow>, Failure> {
         match self.only {
             Some(words) => Ok(Some(over_argument(alloc, parse_tables(alloc, words))?)),
             None => Ok(None),
@@ -95,6 +140,8 @@ impl<'g, 'a> Wanted<'g, 'a> {
             db: self.db,
             changes: self.feed_name(),
             is_copy: false,
+            feed_only: self.feed_only,
+            new_feed: self.new_feed,
         }
     }
 
@@ -110,6 +157,8 @@ impl<'g, 'a> Wanted<'g, 'a> {
             db: self.db,
             changes: self.feed_name(),
             is_copy: true,
+            feed_only: false,
+            new_feed: false,
         }
     }
 
@@ -185,6 +234,7 @@ impl<'g, 'a> Wanted<'g, 'a> {
     /// The tables, of which no row has come, if any are named.
     fn chosen(&self, alloc: Global) -> Result<Option<Chosen>, Failure> {
         match self.filter(alloc)? {
+            Some(filter) if self.feed_only && has_pattern(&filter) => Ok(None),
             Some(filter) => Ok(Some(Chosen::new(alloc, filter)?)),
             None => Ok(None),
         }
@@ -222,6 +272,10 @@ impl<'g, 'a> Wanted<'g, 'a> {
             return Ok(Some(Feed::to_output(rt.alloc(), encoding)));
         }
         match Feed::to_file(rt, name, self.db, others, Some(encoding)) {
+            Ok(feed) if self.feed_only && !feed.is_on_disk() => {
+                feed.discard(rt, name);
+                Err(unusable(rt.alloc(), name, NO_FILE))
+            }
             Ok(feed) => Ok(Some(feed)),
             Err(fault) => Err(of_file(rt.alloc(), name, fault)),
         }
@@ -266,6 +320,9 @@ impl<'g, 'a> Wanted<'g, 'a> {
                 Err(of_misfit(alloc, self.columns.unwrap_or(""), &misfit))
             }
             (Some(WatchStop::Unfinished), _) => Err(unusable(alloc, self.db, UNFINISHED)),
+            (Some(WatchStop::KeepsNone), _) => Err(unusable(alloc, self.db, KEEPS_NONE)),
+            (Some(WatchStop::KeepsRows), _) => Err(unusable(alloc, self.db, KEEPS_ROWS)),
+            (Some(WatchStop::NewFeed), _) => Err(unusable(alloc, self.feed_name(), NEW_FEED)),
         }
     }
 }

@@ -116,7 +116,7 @@ pub(crate) fn change<S: Alter, I: Deliveries, W: Observer>(
 {
     match store.adopt(gtids) {
         Ok(()) => {
-            observer.opened(store.executed());
+            observer.opened(store.executed(), store.following());
             apply_all(store, deliveries, observer)
         }
         Err(fault) => (0, ChangeEnd::NotAdopted(fault)),

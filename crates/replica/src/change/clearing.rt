@@ -178,7 +178,7 @@ pub(crate) fn clear<S: Alter, W: Observer>(
         → HasStayed S.Store store.new old (λ left. left ≡ old) }
     ensures keeps { KeepsStore S.Store store.old store.new }
 {
-    observer.opened(store.executed());
+    observer.opened(store.executed(), store.following());
     if store.executed().contains(gtid) {
         return ClearEnd::Repeat;
     }

@@ -58,7 +58,7 @@ fn connect_and_follow<
         (W.account observer.new) [] }
 {
     let executed = store.executed();
-    observer.opened(executed);
+    observer.opened(executed, store.following());
     match connect.connect(executed) {
         Ok(stream) => {
             observer.connected();

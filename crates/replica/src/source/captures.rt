@@ -101,7 +101,7 @@ pub(crate) fn read_captures<R: Read + Drop, S: Alter, W: Observer>(
     ensures keeps { KeepsSinceOpening S.Store store.old store.new (W.account observer.old)
         (W.account observer.new) ends.new.items }
 {
-    observer.opened(store.executed());
+    observer.opened(store.executed(), store.following());
     if observer.is_done() {
         return Err(Halt::Observer);
     }
