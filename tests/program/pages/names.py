@@ -2,8 +2,8 @@
 
     python3 tests/program/pages/names.py ROOT
 
-- A link has to exist, and a path in backticks: from the root, the page's folder, or the folder of the crate (on a page of
-  no crate, of some crate).
+- A link has to exist, and its heading, and a path in backticks: from the root, the page's folder, or the folder of the crate
+  (on a page of no crate, of some crate).
 - `CRATE::NAME` and `CRATE::TYPE::NAME` have to be items of that crate; on pages about the code, other names in backticks
   words of some crate.
 - A clause has to be one of a function that the same sentence or row names, or a field of the record that its only clause,
@@ -101,10 +101,21 @@ def there(page, path):
     return any(glob.glob(os.path.join(folder, path)) for folder in folders)
 
 
+def headings(path):
+    """The anchors of a page's headings."""
+    text = re.sub(r'(?ms)^```.*?^```$', '', read(path))
+    return {re.sub(r'[^\w\- ]', '', head.lower()).strip().replace(' ', '-') for head in re.findall(r'^#+ (.*)$', text, re.M)}
+
+
 def paths(page, text):
-    for target in re.findall(r'\]\(([^)#]+)(?:#[^)]*)?\)', text):
-        if not target.startswith('http') and not os.path.exists(os.path.join(os.path.dirname(page), target)):
+    for target, anchor in re.findall(r'\]\(([^)#]*)(?:#([^)]*))?\)', text):
+        if target.startswith('http'):
+            continue
+        path = os.path.join(os.path.dirname(page), target) if target else page
+        if not os.path.exists(path):
             yield f'no file {target}'
+        elif anchor and path.endswith('.md') and anchor not in headings(path):
+            yield f'no heading {target}#{anchor}'
     for token in re.findall(r'`([\w.*/-]+)`', text):
         if (token.startswith(TOP) or re.fullmatch(r'[\w/-]+\.(?:md|rt|antt|py|rs)', token)) and not there(page, token):
             yield f'no file {token}'
@@ -200,7 +211,7 @@ def types_twice():
 
 bad += twice()
 bad += types_twice()
-pages = [path for pattern in ('*.md', 'docs/*.md', 'crates/*/README.md', 'samples/*.md', 'bench/*.md', 'proxy/*.md')
+pages = [path for pattern in ('*.md', 'docs/*.md', 'docs/operating/*.md', 'crates/*/*.md', 'samples/*.md', 'bench/*.md', 'proxy/*.md', 'sinks/*.md')
          for path in sorted(glob.glob(f'{root}/{pattern}'))]
 for page in pages:
     text = read(page)
