@@ -6,6 +6,9 @@
 # make install, make uninstall
 #             puts bin/mrep, mrep-proxy, their manual pages, completions, the pages and systemd units below PREFIX
 #             (/usr/local), with DESTDIR before it; and removes them
+# make dist, make deb
+#             put bin/mrep and all that belongs to it into a tarball, and into a Debian package (needs dpkg-deb), in bin/; the same
+#             bytes from the same commit
 # make test   runs the whole gate, tests/run: every proof, beside them the wrong bodies, and then, with the program that was
 #             built, every other folder of tests/ that has a `run`. Before it, as root on Debian, it installs
 #             python3-zstandard where that is missing
@@ -18,7 +21,7 @@
 #             against the C library of SQLite, a whole replay against a C program, and mrep over twice and four times as
 #             much (needs rustc; the store also python3, the replay cc and the library of SQLite)
 
-.PHONY: all build demo install uninstall test mutants record power bench
+.PHONY: all build demo install uninstall dist deb test mutants record power bench
 
 PREFIX = /usr/local
 DESTDIR =
@@ -41,6 +44,9 @@ install:
 
 uninstall:
 	scripts/install --remove "$(PROGRAM)" "$(PREFIX)" "$(DESTDIR)"
+
+dist deb:
+	scripts/$@ "$(PROGRAM)" bin
 
 test:
 	scripts/zstandard

@@ -33,6 +33,24 @@ TYPES = [('id', 'int', 'NULL', 'PRI'), ('big', 'bigint', 'NULL', ''), ('at', 'da
 # The most memory, in MiB, of how many runs the best one counts, and from how many changes on there is one.
 MEMORY, RUNS, LONG = 64, 2, 1_000_000
 UP_TO = sorted({CHANGES, *[MOST] * (MOST > LONG)})
+# The mock cluster of Kafka's library, whose sockets get what those of a broker have, TCP_NODELAY: without it each commit waits some
+# 40 ms for an acknowledgement of TCP.
+MOCK = '''import os, socket, sys, threading, time
+from confluent_kafka import Producer
+client = Producer({'bootstrap.servers': 'mock', 'test.mock.num.brokers': 1, 'log_level': 0})
+print(','.join(f'{it.host}:{it.port}' for it in client.list_topics(timeout=30).brokers.values()), flush=True)
+def send_at_once():
+    while True:
+        for number in os.listdir('/proc/self/fd'):
+            try:
+                if os.readlink(f'/proc/self/fd/{number}').startswith('socket:'):
+                    with socket.socket(fileno=os.dup(int(number))) as one:
+                        one.setsockopt(socket.IPPROTO_TCP, socket.TCP_NODELAY, 1)
+            except OSError:
+                pass
+        time.sleep(0.05)
+threading.Thread(target=send_at_once, daemon=True).start()
+sys.stdin.read()'''
 compact = json.JSONEncoder(ensure_ascii=False, separators=(',', ':')).encode
 
 
@@ -199,11 +217,8 @@ def in_kafka(work, columns):
     if not python:
         print('sinks: Kafka is left out, since no python3 here has confluent_kafka', flush=True)
         return 0
-    mock = ("import sys\nfrom confluent_kafka import Producer\np = Producer({'bootstrap.servers': 'mock', "
-            "'test.mock.num.brokers': 1, 'log_level': 0})\n"
-            "print(','.join(f'{it.host}:{it.port}' for it in p.list_topics(timeout=30).brokers.values()), flush=True)\nsys.stdin.read()")
     for count in UP_TO:
-        with subprocess.Popen([python, '-c', mock], stdin=subprocess.PIPE, stdout=subprocess.PIPE) as cluster:
+        with subprocess.Popen([python, '-c', MOCK], stdin=subprocess.PIPE, stdout=subprocess.PIPE) as cluster:
             brokers = cluster.stdout.readline().decode().strip()
             name = feed(f'{work}/feed', count, 10)
             found = measured(count, python, 'kafka', brokers, '--topics', 'tTURN', '--name', 'tTURN', '--unchecked', '--partitions',

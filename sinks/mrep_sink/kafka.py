@@ -163,7 +163,7 @@ class KafkaSink(SqlSink[Topic]):
     def consumer(self) -> Consumer:
         return Consumer({'group.id': f'{self.options.name}-place', 'isolation.level': 'read_committed',
                          'enable.auto.commit': False, 'auto.offset.reset': 'earliest',
-                         'enable.partition.eof': True, **self.settings})
+                         'enable.partition.eof': True, 'fetch.wait.max.ms': 10, **self.settings})
 
     def last_place(self) -> Optional[Dict[str, Any]]:
         """The last place of this sink that was committed."""
