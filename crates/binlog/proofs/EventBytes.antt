@@ -23,7 +23,7 @@ is_framed code body small =
       bytes_are = ap (λ n. header_bytes code n ++ body) (sym size);
       sizes = (refl, refl, refl);
       a_size = omega (arith, size, small);
-      marked = refl;
+      unkept = refl;
     }
 
 -- the length of framed bytes

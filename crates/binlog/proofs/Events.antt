@@ -94,11 +94,11 @@ neutral_not_read code may_ignore (inl is) = of_each NotRead
     (record { n2 = refl; n3 = refl; n4 = refl; n15 = refl; n16 = refl; n19 = refl; n30 = refl; n31 = refl; n32 = refl; n33 = refl })
     (record { n2 = refl; n3 = refl; n4 = refl; n15 = refl; n16 = refl; n19 = refl; n30 = refl; n31 = refl; n32 = refl; n33 = refl })
     code is
-neutral_not_read code may_ignore (inr (is, marked)) = (unknown code is).not_read
+neutral_not_read code may_ignore (inr (is, unkept)) = (unknown code is).not_read
 
 neutral_type : (code : ℕ) (may_ignore : Bool) → IsNeutral code may_ignore → type_fault code may_ignore ≡ None
 neutral_type code may_ignore (inl is) = of_each (λ c. type_fault c may_ignore ≡ None) refl refl refl refl code is
-neutral_type code may_ignore (inr (is, marked)) = let u = unknown code is in rw (is, u.n34, u.n38, u.n39, u.n40, marked) refl
+neutral_type code may_ignore (inr (is, unkept)) = let u = unknown code is in rw (is, u.n34, u.n38, u.n39, u.n40, unkept) refl
 
 unmarked : (m : Bool) → (true && not m) ≡ false → m ≡ true
 unmarked true is = refl

@@ -29,7 +29,7 @@ is_framed bytes fits long size =
           ∙ sym (right (take 4 bytes) (get_or bytes 4 0 ∷ take 4 (drop 5 bytes)) (little_bytes 4 (length bytes)) (take 4 (drop 13 bytes)) (get_or bytes 17 0 ∷ get_or bytes 18 0 ∷ drop 19 bytes));
       sizes = (omega (arith, long, length-take 4 bytes), omega (arith, long, length-take 4 (drop 5 bytes), length-drop 5 bytes), omega (arith, long, length-take 4 (drop 13 bytes), length-drop 13 bytes));
       a_size = let fits4 = little_from-lt 0 4 (drop 9 bytes) (IsBytes-drop 9 bytes fits) in omega (arith, size, fits4);
-      marked = refl;
+      unkept = refl;
     }
 
 -- The fields of framed bytes at each offset.
@@ -59,7 +59,7 @@ reported code may_ignore body bytes is =
       long = omega (arith, ap length e, length-append is.timestamp r4, length-append is.server_id r9, length-append is.position r17, is.sizes.0, is.sizes.1, is.sizes.2);
       code_is = sym (first_left 4 code bytes r5 (ap (drop 4) e ∙ d4));
       size_is = ap (λ t. little_number 4 (drop 9 t)) e ∙ ap (little_number 4) d9 ∙ little_number-reads_back 4 (length bytes) r13 (omega (arith, is.a_size));
-      mark_is = is.marked ∙ ap (nat_le 128) (sym (first_left 17 is.low_flags bytes (is.high_flags ∷ body) (ap (drop 17) e ∙ d17)));
+      mark_is = is.unkept ∙ ap (nat_le 128) (sym (first_left 17 is.low_flags bytes (is.high_flags ∷ body) (ap (drop 17) e ∙ d17)));
       body_is = sym (ap (drop 19) e ∙ d19);
     }
 

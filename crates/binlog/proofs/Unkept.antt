@@ -4,7 +4,7 @@ use Rattle.std.proofs.Common.{if◌then◌else◌, Vec, slice_index_or, drop}
 use Rattle.std.specs.Str.{bytes_eq}
 use Rattle.std.specs.FinSet as set
 use Rattle.std.proofs.lemmas.Bool.{false_from_ne_true, or_right}
-use Rattle.binlog.specs.Filter.{is_read, is_meant, is_asked, marked_name, marked, IsMeantBy, star, read_table, read_schema, read_all}
+use Rattle.binlog.specs.Filter.{is_read, is_meant, is_asked, unkept_name, unkept, IsMeantBy, star, read_table, read_schema, read_all}
 use Rattle.binlog.proofs.TableSets.{itself, all_of_none, some_name, listed, read_by}
 
 -- ---- Texts before bytes.
@@ -58,7 +58,7 @@ schema_all : bytes_eq read_schema read_all ≡ false
 unfolding read_schema read_all
 schema_all = refl
 
--- ---- A marked name means what was asked for.
+-- ---- A unkept name means what was asked for.
 
 abbrev is_in_table : Name → List ℕ → List ℕ → Bool
 is_in_table n schema table = bytes_eq n.0 (read_table ++ schema) && bytes_eq n.1 table
@@ -121,17 +121,17 @@ two_or false false true y = refl
 two_or false false false y = refl
 
 names_mean : (names : List Name) (schema table : List ℕ)
-    → (is_named_in (read_table ++ schema, table) (map marked_name names) || (is_named_in (read_schema ++ schema, []) (map marked_name names) || is_named_in (read_all ++ [], []) (map marked_name names)))
+    → (is_named_in (read_table ++ schema, table) (map unkept_name names) || (is_named_in (read_schema ++ schema, []) (map unkept_name names) || is_named_in (read_all ++ [], []) (map unkept_name names)))
     ≡ (is_named_in (schema, table) names || is_named_in (schema, star) names)
 names_mean [] schema table = refl
 names_mean (n ∷ names) schema table =
     let is = bytes_eq n.1 star in
-    let m = map marked_name names in
+    let m = map unkept_name names in
     apart_or (is_in_table (mark_as is n) schema table) (is_named_in (read_table ++ schema, table) m) (is_in_schema (mark_as is n) schema) (is_named_in (read_schema ++ schema, []) m) (is_in_all (mark_as is n)) (is_named_in (read_all ++ [], []) m)
     ∙ (λ i. one_means is n schema table i || names_mean names schema table i)
     ∙ two_or (bytes_eq n.0 schema && bytes_eq n.1 table) (is_named_in (schema, table) names) (bytes_eq n.0 schema && is) (is_named_in (schema, star) names)
 
-pub means_asked : (names : List Name) (schema table : List ℕ) → is_meant (marked names) schema table ≡ is_asked names schema table
+pub means_asked : (names : List Name) (schema table : List ℕ) → is_meant (unkept names) schema table ≡ is_asked names schema table
 unfolding is_meant
 means_asked [] schema table = last_true _ _ _ (ap (λ b. (b && true) || false) (itself (read_all ++ [])))
   where
@@ -143,27 +143,27 @@ means_asked (n ∷ names) schema table = names_mean (n ∷ names) schema table
 
 -- ---- No table is kept.
 
-marked_long : (is : Bool) (n : Name) (schema : List ℕ) → length schema < 256 → bytes_eq (mark_as is n).0 schema ≡ false
-marked_long true n schema short = long_apart read_schema n.0 schema schema_long short
-marked_long false n schema short = long_apart read_table n.0 schema table_long short
+unkept_long : (is : Bool) (n : Name) (schema : List ℕ) → length schema < 256 → bytes_eq (mark_as is n).0 schema ≡ false
+unkept_long true n schema short = long_apart read_schema n.0 schema schema_long short
+unkept_long false n schema short = long_apart read_table n.0 schema table_long short
 
-none_named : (names : List Name) (schema table : List ℕ) → length schema < 256 → is_named_in (schema, table) (map marked_name names) ≡ false
+none_named : (names : List Name) (schema table : List ℕ) → length schema < 256 → is_named_in (schema, table) (map unkept_name names) ≡ false
 none_named [] schema table short = refl
 none_named (n ∷ names) schema table short =
     let is = bytes_eq n.1 star in
-    (λ i. (marked_long is n schema short i && bytes_eq (mark_as is n).1 table) || none_named names schema table short i)
+    (λ i. (unkept_long is n schema short i && bytes_eq (mark_as is n).1 table) || none_named names schema table short i)
 
 admits_some : (m : Name) (names : List Name) (schema table : List ℕ) → admits (set.from_list {R = name_cmp} (m ∷ names)) schema table ≡ is_named_in (schema, table) (m ∷ names)
 admits_some m names schema table = (λ i. some_name m names i || listed (m ∷ names) (schema, table) i)
 
-pub none_kept : (names : List Name) (schema table : List ℕ) → length schema < 256 → admits (set.from_list {R = name_cmp} (marked names)) schema table ≡ false
+pub none_kept : (names : List Name) (schema table : List ℕ) → length schema < 256 → admits (set.from_list {R = name_cmp} (unkept names)) schema table ≡ false
 none_kept [] schema table short =
     admits_some (read_all ++ [], []) [] schema table ∙ ap (λ b. (b && bytes_eq [] table) || false) (long_apart read_all [] schema all_long short)
 none_kept (n ∷ names) schema table short =
-    admits_some (marked_name n) (map marked_name names) schema table ∙ none_named (n ∷ names) schema table short
+    admits_some (unkept_name n) (map unkept_name names) schema table ∙ none_named (n ∷ names) schema table short
 
-pub reads_asked : (names : List Name) (schema table : List ℕ) → length schema < 256 → is_read (set.from_list {R = name_cmp} (marked names)) schema table ≡ is_asked names schema table
-reads_asked names schema table short = read_by (marked names) schema table (none_kept names schema table short) ∙ means_asked names schema table
+pub reads_asked : (names : List Name) (schema table : List ℕ) → length schema < 256 → is_read (set.from_list {R = name_cmp} (unkept names)) schema table ≡ is_asked names schema table
+reads_asked names schema table short = read_by (unkept names) schema table (none_kept names schema table short) ∙ means_asked names schema table
 
 -- ---- Names that may be those of tables.
 
@@ -192,13 +192,13 @@ module _ {A : Type 0} where
       (ap (λ b. b || is_named_in (x.0.items, x.1.items) (name_list pairs)) (and_from _ _ (itself x.0.items) (itself x.1.items)))
   named_here (p ∷ pairs) (suc k) x short at = or_right _ _ (named_here pairs k x (omega (arith, short)) at)
 
-  pub marked_of : (pairs : List (Vec ℕ A × Vec ℕ A)) (empty : Bool) → empty ≡ (length pairs == 0) → empty ≡ false → marked (name_list pairs) ≡ map marked_name (name_list pairs)
-  marked_of [] empty is not = absurd (false≢true (sym not ∙ is))
-  marked_of (p ∷ pairs) empty is not = refl
+  pub unkept_of : (pairs : List (Vec ℕ A × Vec ℕ A)) (empty : Bool) → empty ≡ (length pairs == 0) → empty ≡ false → unkept (name_list pairs) ≡ map unkept_name (name_list pairs)
+  unkept_of [] empty is not = absurd (false≢true (sym not ∙ is))
+  unkept_of (p ∷ pairs) empty is not = refl
 
-  pub marked_none : (pairs : List (Vec ℕ A × Vec ℕ A)) (empty : Bool) → empty ≡ (length pairs == 0) → empty ≡ true → marked (name_list pairs) ≡ (read_all ++ [], []) ∷ []
-  marked_none [] empty is none = refl
-  marked_none (p ∷ pairs) empty is none = absurd (false≢true (sym (ne_eqb (suc (length pairs)) 0 (λ z. omega (arith, z))) ∙ sym is ∙ none))
+  pub unkept_none : (pairs : List (Vec ℕ A × Vec ℕ A)) (empty : Bool) → empty ≡ (length pairs == 0) → empty ≡ true → unkept (name_list pairs) ≡ (read_all ++ [], []) ∷ []
+  unkept_none [] empty is none = refl
+  unkept_none (p ∷ pairs) empty is none = absurd (false≢true (sym (ne_eqb (suc (length pairs)) 0 (λ z. omega (arith, z))) ∙ sym is ∙ none))
 
   pub empty_names : (pairs : List (Vec ℕ A × Vec ℕ A)) (empty : Bool) → empty ≡ (length pairs == 0) → empty ≡ true → set.is_subset (set.from_list {R = name_cmp} (name_list pairs)) set.empty ≡ true
   empty_names [] empty is none = all_of_none

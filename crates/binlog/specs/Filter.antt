@@ -77,13 +77,13 @@ is_asked [] schema table = true
 is_asked (n ∷ names) schema table = is_named_in (schema, table) (n ∷ names) || is_named_in (schema, star) (n ∷ names)
 
 -- the name that means what is asked for
-abbrev pub marked_name : Name → Name
-marked_name (schema, table) = if bytes_eq table star then (read_schema ++ schema, []) else (read_table ++ schema, table)
+abbrev pub unkept_name : Name → Name
+unkept_name (schema, table) = if bytes_eq table star then (read_schema ++ schema, []) else (read_table ++ schema, table)
 
-abbrev pub marked : List Name → List Name
-marked [] = (read_all ++ [], []) ∷ []
-marked (n ∷ names) = map marked_name (n ∷ names)
+abbrev pub unkept : List Name → List Name
+unkept [] = (read_all ++ [], []) ∷ []
+unkept (n ∷ names) = map unkept_name (n ∷ names)
 
 -- What is asked for, by the name that means it: `*` also stands for all schemas.
 abbrev pub IsMeantBy : Name → Name → Type 0
-IsMeantBy asked name = (name ≡ marked_name asked) ⊎ ((asked ≡ (star, star)) × (name ≡ (read_all ++ [], [])))
+IsMeantBy asked name = (name ≡ unkept_name asked) ⊎ ((asked ≡ (star, star)) × (name ≡ (read_all ++ [], [])))

@@ -24,7 +24,7 @@ pub record IsFramed (code : ℕ) (may_ignore : Bool) (body bytes : List ℕ) : T
   pub bytes_are : bytes ≡ timestamp ++ code ∷ server_id ++ little_bytes 4 (length bytes) ++ position ++ low_flags ∷ high_flags ∷ body
   pub sizes : (length timestamp ≡ 4) × (length server_id ≡ 4) × (length position ≡ 4)
   pub a_size : length bytes < 2 ^ 32
-  pub marked : may_ignore ≡ nat_le ignorable_flag low_flags
+  pub unkept : may_ignore ≡ nat_le ignorable_flag low_flags
 
 -- the faults of a header, in order
 unfoldable pub header_fault : List ℕ → Option EventFault

@@ -10,7 +10,7 @@ ghost use Rattle.std.specs.Str.{bytes_eq};
 ghost use Rattle.std.specs.Cmp.Lexicographic.{slice_cmp};
 ghost use Rattle.std.specs.Ordering.{nat_cmp};
 ghost use Rattle.std.specs.List.Sorted.{IsStrictlySortedBy};
-ghost use Rattle.binlog.specs.Filter.{name_cmp, is_named_in, admits, is_read, is_meant, is_asked, marked_name, marked, star, IsMeantBy};
+ghost use Rattle.binlog.specs.Filter.{name_cmp, is_named_in, admits, is_read, is_meant, is_asked, unkept_name, unkept, star, IsMeantBy};
 ghost use Rattle.binlog.specs.FilterView.{name_list};
 ghost use Rattle.binlog.specs.declared.fault.EventFaultKind.TheVariants.{Memory};
 
@@ -48,8 +48,8 @@ impl Follow {
             → admits follow schema table ≡ false) }
         ensures err { IfErr result (λ fault. fault ≡ record { kind = Memory; at = 0 }) }
     {
-        let marked = mark_all(alloc, names)?;
-        Follow::new(alloc, &marked)
+        let unkept = mark_all(alloc, names)?;
+        Follow::new(alloc, &unkept)
     }
 
     /// Whether rows of some table are kept. It takes no memory.
@@ -200,7 +200,7 @@ fn mark_all(
     alloc: Global,
     names: &[(Vec<u8>, Vec<u8>)],
 ) -> Result<Vec<(Vec<u8>, Vec<u8>)>, EventFault>
-    ensures ok { IfOk result (λ all. name_list all.items ≡ marked (name_list names.now)) }
+    ensures ok { IfOk result (λ all. name_list all.items ≡ unkept (name_list names.now)) }
     ensures err { IfErr result (λ fault. fault ≡ record { kind = Memory; at = 0 }) }
 {
     let mut all = Vec::new(alloc);
@@ -218,7 +218,7 @@ fn mark_all(
 /// The name that means this table, or all of its schema, as read and not kept. The only error is `Memory`.
 fn mark(alloc: Global, name: &(Vec<u8>, Vec<u8>)) -> Result<(Vec<u8>, Vec<u8>), EventFault>
     ensures ok { IfOk result (λ is. (is.0.items, is.1.items)
-        ≡ marked_name (name.now.0.items, name.now.1.items)) }
+        ≡ unkept_name (name.now.0.items, name.now.1.items)) }
     ensures err { IfErr result (λ fault. fault ≡ record { kind = Memory; at = 0 }) }
 {
     if is_star(&name.1) {

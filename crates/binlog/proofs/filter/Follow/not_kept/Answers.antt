@@ -9,10 +9,10 @@ pub returns-clause-reads : goal.returns-clause-reads
 returns-clause-reads c =
     let asked = name_list c.args.names.now in
     IfOk-weaker c.new.result _ _ (λ follow same schema table short.
-    ap (λ (n : Names). is_read n schema table) (same ∙ ap (λ l. set.from_list {R = name_cmp} l) (ap name_list c.deref.ensures.value ∙ c.in_ok-marked.ensures.ok)) ∙ reads_asked asked schema table short) c.new.ensures.ok
+    ap (λ (n : Names). is_read n schema table) (same ∙ ap (λ l. set.from_list {R = name_cmp} l) (ap name_list c.deref.ensures.value ∙ c.in_ok-unkept.ensures.ok)) ∙ reads_asked asked schema table short) c.new.ensures.ok
 
 pub returns-clause-keeps : goal.returns-clause-keeps
 returns-clause-keeps c =
     let asked = name_list c.args.names.now in
     IfOk-weaker c.new.result _ _ (λ follow same schema table short.
-    ap (λ (n : Names). admits n schema table) (same ∙ ap (λ l. set.from_list {R = name_cmp} l) (ap name_list c.deref.ensures.value ∙ c.in_ok-marked.ensures.ok)) ∙ none_kept asked schema table short) c.new.ensures.ok
+    ap (λ (n : Names). admits n schema table) (same ∙ ap (λ l. set.from_list {R = name_cmp} l) (ap name_list c.deref.ensures.value ∙ c.in_ok-unkept.ensures.ok)) ∙ none_kept asked schema table short) c.new.ensures.ok
