@@ -95,7 +95,7 @@ opened_missed was None executed waits = tt
 opened_missed None (Some is) executed waits = absurd waits
 opened_missed (Some was) (Some is) executed waits = tt
 
-abbrev pub opened_noted : (names : Names) (old : Content) (ids : Ids) (was is : Account) → ids ≡ old.executed → HasNotices was is (opened ids ∷ []) → Excludes was ids is → IsNotedSinceOpening names old old was is []
+abbrev pub opened_noted : (names : Names) (old : Content) (ids : Ids) (was is : Account) → ids ≡ old.executed → HasNotices was is (opened ids ∷ []) → Excludes was ids names is → IsNotedSinceOpening names old old was is []
 opened_noted names old ids was is same noticed excludes = record {
   noted_of = record {
     notices = opened ids ∷ [];
@@ -112,7 +112,7 @@ opened_noted names old ids was is same noticed excludes = record {
   begins = same;
   missed = λ some. absurd (some refl);
   fails = tt;
-  excluded = none_let was is ids old.executed same excludes;
+  excluded = none_let was is ids old.executed names same excludes;
 }
 
 -- ---- A store.

@@ -1,7 +1,7 @@
 -- What a call keeps that may change a store: of one that does nothing, and of one after another.
 use Rattle.replica.proofs.Names.{◌≡◌, ◌≢◌, ◌∙◌, List, [], ◌∷◌, ◌++◌, Bool, false, refl, sym, subst, Ghosts, HasCleanDisk, Ids, Content, Store, HoldsAs, database, Ended, Account, HasNotices, WasMissing, IsLedSinceOpening, ended, KeepsStore, KeepsObserved, KeepsSinceOpening}
 use Rattle.std.specs.Prelude.{not}
-use Rattle.store.specs.Store.{IsBroken}
+use Rattle.store.specs.Store.{IsBroken, names_of}
 use Rattle.replica.specs.Noted.{HasNoNotice, Excludes, opened}
 use Rattle.replica.proofs.ObserverEnds.{still}
 use Rattle.replica.proofs.Notices.{led_nowhere, led_through, led_to_end, since_from, since_through, no_notice}
@@ -57,7 +57,7 @@ module _ {S : Type 0} (g : Ghosts S) where
   abbrev pub MissesSince : Store S g → Store S g → Account → Account → Type 0
   MissesSince first last was is = HasCleanDisk (database g last) → (broken : Bool) (content : Content) → HoldsAs g broken content first → WasMissing was.waits is.waits content.executed
 
-  pub since_opened : {store : Store S g} {was is : Account} {ids : Ids} → ((broken : Bool) (content : Content) → HoldsAs g broken content store → ids ≡ content.executed) → HasNotices was is (opened ids ∷ []) → Excludes was ids is → KeepsSinceOpening g store store was is []
+  pub since_opened : {store : Store S g} {was is : Account} {ids : Ids} → ((broken : Bool) (content : Content) → HoldsAs g broken content store → ids ≡ content.executed) → HasNotices was is (opened ids ∷ []) → Excludes was ids (names_of g store) is → KeepsSinceOpening g store store was is []
   since_opened {store} {was} {is} {ids} same noticed excludes = record {
     store = store_same;
     stays = noticed.stays;

@@ -1,17 +1,16 @@
 -- What is reported to an observer, along the calls that report it.
-use Rattle.replica.proofs.Names.{◌≡◌, ◌≢◌, ◌⊎◌, ◌∷◌, ◌++◌, [], ℕ, length, arith, List, Option, Some, None, Result, Ok, Err, Bool, true, false, refl, sym, ap, ap₂, subst, ◌∙◌, inl, inr, append_assoc, append-nil, if◌then◌else◌, cases_Bool, false≢true, false_from_ne_true, or_left, or_right, or_cases, Ghosts, Schema, Ids, Names, DeliveryValue, Content, HasOutcome, done, is_executed, Applied, StoreFault, Store, HasFailed, HoldsAs, AreOf, Applies, Reason, EndOfInput, Database, Ended, AppliesAll, outcome_of, Notice, stopped, ended, applied_in, IsMadeBy, LeadsBy, Account, HasNotices, IsLedOver, StillWaits, WereMissed, WasMissing, BeginsWith, IsNotedSinceOpening, IsLedSinceOpening, fails_by, has_failure, EndsAtFailure, IsOneMoreNoted, IsLeftOfNoted, LeavesOnly, TakesAlone, waits_for_none}
+use Rattle.replica.proofs.Names.{◌≡◌, ◌≢◌, ◌⊎◌, ◌∷◌, ◌++◌, [], length, arith, List, Option, Some, None, Result, Ok, Err, Bool, true, false, refl, sym, ap, ap₂, subst, ◌∙◌, inl, inr, append_assoc, append-nil, if◌then◌else◌, cases_Bool, false≢true, false_from_ne_true, or_left, or_right, or_cases, Ghosts, Schema, Ids, Names, DeliveryValue, Content, HasOutcome, done, is_executed, Applied, StoreFault, Store, HasFailed, HoldsAs, AreOf, Applies, Reason, EndOfInput, Database, Ended, AppliesAll, outcome_of, Notice, stopped, ended, applied_in, IsMadeBy, LeadsBy, Account, HasNotices, IsLedOver, StillWaits, WereMissed, WasMissing, BeginsWith, IsNotedSinceOpening, IsLedSinceOpening, fails_by, has_failure, EndsAtFailure, IsOneMoreNoted, IsLeftOfNoted, LeavesOnly, TakesAlone, waits_for_none}
 use Rattle.std.specs.Prelude.{not}
 use Rattle.std.proofs.lemmas.Bool.{or_parts}
 use Rattle.std.specs.FinSet as set
 use Rattle.store.specs.declared.fault.Applied.TheVariants as applied
 use Rattle.store.specs.declared.fault.StoreFault.TheVariants as fault
-use Rattle.store.specs.Store.{Holds}
+use Rattle.store.specs.Store.{Holds, names_of}
 use Rattle.sqlite.specs.Held.{state}
 use Rattle.replica.proofs.Transactions.{all_one}
 use Rattle.replica.proofs.MissingSets.{none_left, none_removed}
 use Rattle.replica.specs.Conn.{StoreState}
-use Rattle.replica.specs.Marks.{is_unfinished}
-use Rattle.replica.specs.Noted.{opened, before, after, HasBeenNoted, asked_about, ends_in, has_stop, has_last, LetsNone, Excludes, HasNoNotice, IsNotedOf, IsLedTo, missing_after, AreMissed, NextFails}
+use Rattle.replica.specs.Noted.{opened, before, after, HasBeenNoted, asked_about, ends_in, has_stop, has_last, LetsNone, Excludes, IsExcluded, HasNoNotice, IsNotedOf, IsLedTo, missing_after, AreMissed, NextFails}
 
 pub noted_none : (noted : Option (List Notice)) → HasBeenNoted noted noted []
 noted_none None = tt
@@ -328,7 +327,7 @@ since_on names old mid new t0 t1 t2 ends more going a b missed fails = record {
   begins = begins_more old.executed a.noted_of.notices b.notices a.begins;
   missed = missed;
   fails = fails;
-  excluded = λ asks source begun. let first = a.excluded asks source begun in (none_more a.noted_of.notices b.notices first.0 (b.lets_none first.1), b.stays first.1);
+  excluded = λ out. let first = a.excluded out in (none_more a.noted_of.notices b.notices first.0 (b.lets_none first.1), b.stays first.1);
 }
 
 -- none is applied where none is to be
@@ -353,14 +352,18 @@ none_left_more names new left (after d answer ∷ ns) lets more = none_left_more
 none_left_more names new left (ended end goes_on ∷ ns) lets more = none_left_more names new left ns lets more
 
 -- the same where nothing but the opening was reported
-pub none_let : (was is : Account) (ids executed : Ids) → ids ≡ executed → Excludes was ids is → was.excludes ≡ true → (source : List ℕ) → is_unfinished executed source ≡ true → LetsNone (opened ids ∷ []) × (is.has_stopped ≡ true)
-none_let was is ids executed same excludes asks source begun = (tt, excludes asks source (ap (λ (x : Ids). is_unfinished x source) same ∙ begun))
+pub none_let : (was is : Account) (ids executed : Ids) (names : Names) → ids ≡ executed → Excludes was ids names is → IsExcluded was executed names → LetsNone (opened ids ∷ []) × (is.has_stopped ≡ true)
+none_let was is ids executed names same excludes out = (tt, excludes (subst (λ (x : Ids). IsExcluded was x names) (sym same) out))
 
--- An observer that stops for a first copy that has not ended lets nothing be applied where there is one.
-pub excluded : (names : Names) (old new : Content) (was is : Account) (ends : List Ended) (source : List ℕ) → (since : IsNotedSinceOpening names old new was is ends) → was.excludes ≡ true → is_unfinished old.executed source ≡ true
+-- what is said of a filter is said of the names that it is
+pub excludes_by : (was is : Account) (ids : Ids) {following names : Names} → following ≡ names → Excludes was ids following is → Excludes was ids names is
+excludes_by was is ids same excludes out = excludes (subst (λ (n : Names). IsExcluded was ids n) (sym same) out)
+
+-- An observer that does not take a database lets nothing be applied to it.
+pub excluded : (names : Names) (old new : Content) (was is : Account) (ends : List Ended) → (since : IsNotedSinceOpening names old new was is ends) → IsExcluded was old.executed names
     → (left : Content) → IsLeftOfNoted names since.noted_of.notices new left → (new ≡ old) × (left ≡ old)
-excluded names old new was is ends source since asks begun left l =
-    let lets = (since.excluded asks source begun).0 in
+excluded names old new was is ends since out left l =
+    let lets = (since.excluded out).0 in
     let same = unapplied names old since.noted_of.notices new since.noted_of.leads (lets_none_applied names old since.noted_of.notices new since.noted_of.leads lets) in
     (same, elim l [ inl stays ↦ stays ∙ same | inr more ↦ absurd (none_left_more names new left since.noted_of.notices lets more) ])
 
@@ -463,7 +466,7 @@ module _ {S : Type 0} (g : Ghosts S) where
       of_leads broken old first last t0 t2 (ends ++ more) (leads_then first.following (record { broken = broken; content = old }) first middle last t0 t1 t2 ends more going (to_leads broken old first middle t0 t1 ends a) b)
 
   -- the executed set of a store that was opened
-  pub since_from : (broken : Bool) (old : Content) (store : Store S g) (ids : Ids) (was is : Account) → HoldsAs g broken old store → ids ≡ old.executed → HasNotices was is (opened ids ∷ []) → Excludes was ids is → IsLedSinceOpening g store store broken old was is []
+  pub since_from : (broken : Bool) (old : Content) (store : Store S g) (ids : Ids) (was is : Account) → HoldsAs g broken old store → ids ≡ old.executed → HasNotices was is (opened ids ∷ []) → Excludes was ids (names_of g store) is → IsLedSinceOpening g store store broken old was is []
   since_from broken old store ids was is holds same noticed excludes = record {
     now_broken = broken;
     new = old;
@@ -473,7 +476,7 @@ module _ {S : Type 0} (g : Ghosts S) where
       begins = same;
       missed = λ some. absurd (some refl);
       fails = tt;
-      excluded = none_let was is ids old.executed same excludes;
+      excluded = none_let was is ids old.executed (names_of g store) same excludes;
     };
     breaks = λ bad. absurd (false≢true bad);
     leaves = λ fresh now. absurd (false≢true (sym fresh ∙ now));

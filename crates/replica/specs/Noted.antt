@@ -1,11 +1,11 @@
 -- What is reported to an observer of transactions and connections, and what follows from that.
-use Rattle.std.specs.Prelude.{◌≡◌, ◌≢◌, ◌⊎◌, ◌||◌, ℕ, Bool, true, false, if◌then◌else◌, List, [], ◌∷◌, ◌++◌, Option, Some, None, Result, Ok, Err}
+use Rattle.std.specs.Prelude.{◌≡◌, ◌≢◌, ◌⊎◌, ◌||◌, ℕ, Bool, true, false, if◌then◌else◌, List, [], ◌∷◌, ◌++◌, ◌<◌, length, Option, Some, None, Result, Ok, Err}
 use Rattle.sqlite_trees.specs.declared.store.Store.{Ghosts}
 use Rattle.sqlite_schema.specs.declared.schema.Schema.{Schema}
 use Rattle.std.specs.FinSet as set
 use Rattle.wire.specs.Payload.{Payload}
 use Rattle.gtid.specs.Identifier.{Ids}
-use Rattle.binlog.specs.Filter.{Names}
+use Rattle.binlog.specs.Filter.{Names, admits}
 use Rattle.binlog.specs.Event.{EventValue}
 use Rattle.gather.specs.Transaction.{DeliveryValue}
 use Rattle.store.specs.State.{Content}
@@ -193,10 +193,23 @@ pub record Account : Type 0 where
   pub waits : Option Ids
   -- whether it stops where a first copy has begun in the database and not ended
   pub excludes : Bool
+  -- whether it stops where a database keeps no rows, or where it keeps some, if it says so
+  pub keeps : Option Bool
 
--- An observer that stops for a first copy that has begun and not ended has stopped where there is one in a set that was reported.
-abbrev pub Excludes : Account → Ids → Account → Type 0
-Excludes was executed is = was.excludes ≡ true → (source : List ℕ) → is_unfinished executed source ≡ true → is.has_stopped ≡ true
+-- The filter admits no table that a server can have: the length of a schema's name is a byte.
+abbrev pub KeepsNone : Names → Type 0
+KeepsNone names = (schema table : List ℕ) → length schema < 256 → admits names schema table ≡ false
+
+-- An observer does not take a database with this executed set and this filter: it stops for a first copy that has begun and not ended,
+-- and there is one, or for a database that keeps rows, or none, and this is one.
+abbrev pub IsExcluded : Account → Ids → Names → Type 0
+IsExcluded was executed names =
+    ((source : List ℕ) × (was.excludes ≡ true) × (is_unfinished executed source ≡ true))
+    ⊎ (((was.keeps ≡ Some false) × (KeepsNone names → ⊥)) ⊎ ((was.keeps ≡ Some true) × KeepsNone names))
+
+-- An observer has stopped where such a database was reported.
+abbrev pub Excludes : Account → Ids → Names → Account → Type 0
+Excludes was executed names is = IsExcluded was executed names → is.has_stopped ≡ true
 
 -- What an observer says of a call that reports these notices to it: they were added to its account, it waits for what is missing after
 -- them, and it does not take back that it has stopped.
@@ -244,14 +257,14 @@ BeginsWith executed (opened ids ∷ notices) = ids ≡ executed
 BeginsWith executed _ = ⊥
 
 -- The same since a database with the first content was opened. A connection of a list was read only if something was missing of what
--- the observer waited for. After a failure of the store no transaction was applied. Where the observer stops for a first copy that has
--- begun and not ended, and there is one, no transaction was to be applied.
+-- the observer waited for. After a failure of the store no transaction was applied. Where the observer does not take the database, no
+-- transaction was to be applied.
 pub record IsNotedSinceOpening (names : Names) (old new : Content) (was is : Account) (ends : List Ended) : Type 0 where
   pub noted_of : IsNotedOf names old new was is ends
   pub begins : BeginsWith old.executed noted_of.notices
   pub missed : ends ≢ [] → WasMissing was.waits is.waits old.executed
   pub fails : EndsAtFailure noted_of.notices
-  pub excluded : was.excludes ≡ true → (source : List ℕ) → is_unfinished old.executed source ≡ true → LetsNone noted_of.notices × (is.has_stopped ≡ true)
+  pub excluded : IsExcluded was old.executed names → LetsNone noted_of.notices × (is.has_stopped ≡ true)
 
 -- Transactions led from a content to one in which some of these were not executed, and one more to this one.
 pub record EndsWithLast (names : Names) (old new : Content) (wanted : Ids) : Type 0 where

@@ -17,7 +17,7 @@ ghost use Rattle.scripted_source.specs.Script.{PartValue, ScriptValue};
 ghost use Rattle.scripted_source.specs.Source.{is_once};
 ghost use Rattle.store.specs.State.{Content, TableRow};
 ghost use Rattle.store.specs.Changes.{HasOutcome, adopted, done};
-ghost use Rattle.replica.specs.Marks.{begun_number, is_unfinished};
+ghost use Rattle.replica.specs.Marks.{begun_number};
 ghost use Rattle.replica.specs.Copies.{end_of_copy};
 ghost use Rattle.replica.specs.Copied.{AreAdded, AreCopied, AreNumbered, AreOutside, NoneExecuted, with_all};
 ghost use Rattle.store.specs.Store.{HoldsAs, database, names_of};
@@ -37,7 +37,7 @@ ghost use Rattle.replica.specs.Standing.{Position, Stands, from_start, sends_on,
 ghost use Rattle.replica.specs.Over.{StandsOver};
 ghost use Rattle.replica.specs.Follow.{HandsOut, IsInFull};
 ghost use Rattle.replica.specs.File.{FilesHold, AreClosedWith, IsTurnedAway};
-ghost use Rattle.replica.specs.Noted.{Account, IsNotedOf, IsNotedSinceOpening, IsLeftOfNoted, Notice, opened, before, LeadsBy, applied_in, StillWaits, WereMissed};
+ghost use Rattle.replica.specs.Noted.{Account, IsExcluded, IsNotedOf, IsNotedSinceOpening, IsLeftOfNoted, Notice, opened, before, LeadsBy, applied_in, StillWaits, WereMissed};
 ghost use Rattle.replica.specs.Missing.{waits_for_none};
 ghost use Rattle.replica.specs.Feed.{FileLine, open_line, whole_line, Reader, at_first, read_line, read_file, with_changes, AreFed, all_lines};
 ghost use Rattle.replica.specs.Restart.{Starts, IsUncut, MayFindUnopened, AreStarts, HoldFirst, FilesNeverFall};
@@ -204,12 +204,12 @@ pub fn waited()
         → set.is_subset wanted mid.executed ≡ false }
 {}
 
-/// While a first copy has begun in a database and not ended, a call with an observer that stops for that changes nothing, and neither
-/// does a crash in it.
+/// A call with an observer that stops for a database with a first copy that has begun and not ended, or for one that keeps rows, or
+/// none, changes nothing of such a database, and neither does a crash in it.
 pub fn excluded()
     ensures { (names : Names) (old new : Content) (was is : Account) (ends : List Ended)
-        (source : List ℕ) → (since : IsNotedSinceOpening names old new was is ends)
-        → was.excludes ≡ true → is_unfinished old.executed source ≡ true → (left : Content)
+        → (since : IsNotedSinceOpening names old new was is ends)
+        → IsExcluded was old.executed names → (left : Content)
         → IsLeftOfNoted names since.noted_of.notices new left → (new ≡ old) × (left ≡ old) }
 {}
 

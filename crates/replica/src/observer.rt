@@ -14,13 +14,14 @@ use gtid::GtidSet;
 /// What connections are reported to while they are read, and what may stop them.
 pub trait Observer {
     // What was reported to it, what it was given of payloads, whether it has asked to stop, which transactions it still waits
-    // for, and whether it stops for a first copy that has not ended.
+    // for, and for which databases it stops: for one with a first copy that has not ended, for one that keeps rows, or none.
     ghost account: { Self → Account };
 
     /// Called once with the executed set and the filter of a database file, before anything is read.
     fn opened(&mut self, executed: &GtidSet, following: &Follow)
         ensures noticed { HasNotices (account self.old) (account self.new) (opened executed.now ∷ []) }
-        ensures excludes { Excludes (account self.old) executed.now (account self.new) }
+        ensures excludes { Excludes (account self.old) executed.now following.now
+            (account self.new) }
         ensures seen { (account self.new).seen ≡ (account self.old).seen };
 
     /// Called when the source has been reached.
@@ -91,6 +92,7 @@ impl Observer for Unobserved {
       has_stopped = false;
       waits = None;
       excludes = false;
+      keeps = None;
     } };
 
     fn opened(&mut self, _executed: &GtidSet, _following: &Follow) {}

@@ -112,6 +112,7 @@ impl<W: Observer> Observer for Until<W> {
       has_stopped = is_over u.missing || (W.account u.inner).has_stopped;
       waits = u.missing;
       excludes = (W.account u.inner).excludes;
+      keeps = (W.account u.inner).keeps;
     } };
 
     fn opened(&mut self, executed: &GtidSet, following: &Follow) {

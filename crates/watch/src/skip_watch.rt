@@ -85,6 +85,7 @@ impl Observer for SkipWatch<'_> {
       has_stopped = is_some w.stop;
       waits = None;
       excludes = true;
+      keeps = None;
     } };
 
     fn opened(&mut self, executed: &GtidSet, _following: &Follow) {

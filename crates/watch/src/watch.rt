@@ -1,7 +1,8 @@
 //! What a command reports while it reads: the line of each end, progress, and the change feed.
 
-ghost use Rattle.std.specs.Prelude.{◌≡◌, true, false, not, is_some, None};
+ghost use Rattle.std.specs.Prelude.{◌≡◌, true, false, not, is_some, None, Some};
 ghost use Rattle.replica.specs.Marks.{NoneUnfinished};
+ghost use Rattle.replica.specs.Noted.{KeepsNone};
 
 use crate::map_names::names_in_map;
 use crate::pulse::Pulse;
@@ -181,23 +182,29 @@ impl<'a, O: Write, E: Write> Watch<'a, O, E> {
     }
 
     /// Why the command may not use the database, which keeps the rows of the tables of this filter, or its file of changes.
-    fn refusal(&self, executed: &GtidSet, following: &Follow) -> Option<WatchStop> {
-        if !self.source.feed_only {
-            return if following.keeps_rows() {
-                None
-            } else {
-                Some(WatchStop::KeepsNone)
-            };
+    fn refusal(&self, executed: &GtidSet, following: &Follow) -> Option<WatchStop>
+        ensures none_kept { result ≡ None → self.now.source.feed_only ≡ true
+            → KeepsNone following.now }
+        ensures kept { result ≡ None → self.now.source.feed_only ≡ false
+            → KeepsNone following.now → ⊥ }
+    {
+        match (self.source.feed_only, following.keeps_rows()) {
+            (false, true) => None,
+            (false, false) => Some(WatchStop::KeepsNone),
+            (true, true) => Some(WatchStop::KeepsRows),
+            (true, false) if self.would_begin_anew(executed) => Some(WatchStop::NewFeed),
+            (true, false) => None,
         }
-        if following.keeps_rows() {
-            return Some(WatchStop::KeepsRows);
-        }
+    }
+
+    /// Whether the feed would begin in a new file, which was not asked for, after transactions whose changes another one has.
+    fn would_begin_anew(&self, executed: &GtidSet) -> bool {
         if self.source.new_feed || executed.is_subset(&GtidSet::new(self.source.rt.alloc())) {
-            return None;
+            return false;
         }
         match &self.feed {
-            Some(feed) if feed.is_empty() => Some(WatchStop::NewFeed),
-            _ => None,
+            Some(feed) => feed.is_empty(),
+            None => false,
         }
     }
 
@@ -357,6 +364,7 @@ impl<'a, O: Write, E: Write> Observer for Watch<'a, O, E> {
       has_stopped = is_some w.stop;
       waits = None;
       excludes = not w.source.is_copy;
+      keeps = Some (not w.source.feed_only);
     } };
 
     fn opened(&mut self, executed: &GtidSet, following: &Follow) {

@@ -125,7 +125,7 @@ fn rows_of(
         ClearEnd::Cleared(rows) => return stopped.map(|()| Some(rows)),
         ClearEnd::Stopped(reason) => return stopped.and(Err(failure_of(alloc, db, reason))),
         ClearEnd::Repeat => Ok(None),
-        ClearEnd::NotFollowed => Err(of_other_tables(alloc, db)),
+        ClearEnd::NotFollowed => return stopped.and(Err(of_other_tables(alloc, db))),
         ClearEnd::OtherSet => Err(unusable(alloc, db, OTHER_SET)),
         ClearEnd::Failed(cause) => Err(of_database(alloc, db, cause)),
     };

@@ -14,6 +14,7 @@ use replica::{InFile, Unopened, in_file};
 use sqlite::{Connection, Error, ErrorCode, File};
 use sqlite_disk::Unknown;
 use std::alloc::Global;
+use std::convert::Infallible;
 use store::{Listed, Lister, Visitor};
 
 /// How many processes may read copies of one database at a time.
@@ -37,6 +38,52 @@ pub fn list_in<L: Lister>(
         Found::Database => list_database(rt, name, lister),
         Found::Unmerged => list_copy(rt, name, lister),
         Found::Foreign => Err(unusable(rt.alloc(), name, FOREIGN)),
+    }
+}
+
+/// What a database keeps.
+#[derive(Clone, Copy, PartialEq, Eq)]
+pub enum Kept {
+    /// Rows.
+    Rows,
+    /// None, since it was made so.
+    None,
+    /// Nothing is known: it is new, or cannot be opened.
+    Unknown,
+}
+
+/// What the database of this name keeps, as it was before a command opens it.
+pub fn kept_in(rt: &HostRuntime, name: &str) -> Kept {
+    let mut kept = Kept::Unknown;
+    match list_in(rt, name, &mut kept) {
+        Ok(Ok(())) => kept,
+        _ => Kept::Unknown,
+    }
+}
+
+impl Visitor for Kept {
+    type Error = Infallible;
+
+    ghost row_gives = { λ _ _ _ _. Unit {0} };
+
+    fn row(&mut self, _row: &Listed<'_>) -> Result<(), Infallible> {
+        Ok(())
+    }
+}
+
+impl Lister for Kept {
+    ghost begun = { λ _ _ _ _ _. Unit {0} };
+
+    fn begin(&mut self, executed: &GtidSet, following: &Follow) -> Result<bool, Infallible> {
+        *self = match following.keeps_rows() {
+            false => Kept::None,
+            // One that has nothing yet may be a new one.
+            true if following.names().is_empty() && executed.spans().next().is_none() => {
+                Kept::Unknown
+            }
+            true => Kept::Rows,
+        };
+        Ok(false)
     }
 }
 

@@ -1,6 +1,7 @@
 //! What `mrep replay` and `mrep follow` are asked for beside what they read.
 
 use crate::database::description::read_tables;
+use crate::database::reading::{Kept, kept_in};
 use crate::report::failure::{
     Failure, of_argument, of_file, of_misfit, of_system, over_argument, over_file, unusable,
 };
@@ -8,7 +9,6 @@ use binlog::Follow;
 use clap::ArgMatches;
 use command_line::{ArgumentFault, parse_encoding, parse_set, parse_tables, word};
 use feed::{Feed, OUTPUT};
-use files::Found;
 use formats::Format;
 use gtid::GtidSet;
 use messages::{KEEPS_NONE, KEEPS_ROWS, NEW_FEED, NO_FILE, UNFINISHED};
@@ -48,11 +48,6 @@ pub fn waited(is_out_of_memory: bool) -> Result<(), Failure> {
         return Err(Failure::Memory);
     }
     Ok(())
-}
-
-/// Whether a database was made already.
-fn is_made(found: Found) -> bool {
-    matches!(found, Found::Database | Found::Unmerged)
 }
 
 /// Whether one of the names means all tables of a schema, where no rows are kept.
@@ -98,9 +93,11 @@ impl<'g, 'a> Wanted<'g, 'a> {
         if !self.feed_only {
             return Ok(named);
         }
+        let kept = kept_in(rt, self.db);
         let names = match &named {
+            _ if kept == Kept::Rows => return Err(unusable(rt.alloc(), self.db, KEEPS_ROWS)),
             Some(filter) => filter.names(),
-            None if is_made(Found::under(rt, self.db)) => return Ok(None),
+            None if kept == Kept::None => return Ok(None),
             None => &[],
         };
         match Follow::not_kept(rt.alloc(), names) {

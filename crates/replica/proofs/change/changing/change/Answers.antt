@@ -2,6 +2,7 @@ use Rattle.replica.proofs.Names.{false, refl, sym, subst, adopted, HasChanged}
 use Rattle.store.specs.Store.{Holds}
 use Rattle.replica.proofs.ChangeFiles.{unless_begun, since_likewise}
 use Rattle.replica.proofs.InOrder.{not_adopted}
+use Rattle.replica.proofs.Notices.{excludes_by}
 use Rattle.replica.proofs.Keeps.{store_then, since_opened, since_then}
 use Rattle.replica.proofs.change.changing.change.Goals as goal
 
@@ -18,7 +19,7 @@ returns-in-Err-clause-changes g c clean old holds =
 pub returns-in-Ok-clause-notes : goal.returns-in-Ok-clause-notes
 returns-in-Ok-clause-notes g c clean old holds begun =
     let whole : Holds g.S.Store c.adopt.new.self (adopted old c.args.gtids.now) = c.in-Ok.ensures.adopts (c.apply_all.ensures.keeps.store.clean clean) old holds in
-    let since = since_then g.S.Store (λ some. absurd (some refl)) refl (λ some. absurd (some refl)) (since_opened g.S.Store c.executed.ensures.value c.opened.ensures.noticed c.opened.ensures.excludes) c.apply_all.ensures.keeps in
+    let since = since_then g.S.Store (λ some. absurd (some refl)) refl (λ some. absurd (some refl)) (since_opened g.S.Store c.executed.ensures.value c.opened.ensures.noticed (excludes_by (g.W.Observer.account c.args.observer.now) (g.W.Observer.account c.opened.new.self) c.executed.result.now c.following.ensures c.opened.ensures.excludes)) c.apply_all.ensures.keeps in
     since_likewise g.S.Store c.args.store.now c.adopt.new.self c.apply_all.new.store (adopted old c.args.gtids.now) (g.W.Observer.account c.args.observer.now) (g.W.Observer.account c.apply_all.new.observer) c.adopt.ensures.rest.following
     (since.notes clean false (adopted old c.args.gtids.now) whole)
 

@@ -1,7 +1,7 @@
-use Rattle.replica.proofs.Names.{◌≡◌, ◌∙◌, ℕ, List, Bool, inl, inr, true, false, refl, sym, ap, ap₂, subst, Ids, Names, admits, id}
+use Rattle.replica.proofs.Names.{◌∙◌, ℕ, List, inl, inr, false, sym, ap, ap₂, subst, Ids, Names, admits, id}
 use Rattle.std.specs.FinSet as set
 use Rattle.replica.specs.Marks.{is_unfinished, NoOtherUnfinished}
-use Rattle.replica.specs.Copies.{IsAtSet, AreAdmitted, was_begun}
+use Rattle.replica.specs.Copies.{IsAtSet, AreAdmitted}
 use Rattle.replica.specs.declared.change.loading.NoRows.{NoRows}
 use Rattle.replica.specs.declared.change.loading.Unloadable.TheVariants.{Unfinished, OtherSet, LeftOut, HasRows, Failed}
 use Rattle.store.specs.declared.fault.StoreFault.TheVariants as fault

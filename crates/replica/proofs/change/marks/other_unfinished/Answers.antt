@@ -1,9 +1,8 @@
-use Rattle.std.proofs.Common.{◌≡◌, ◌&&◌, ◌∙◌, ℕ, List, true, false, not, sym, replicate}
+use Rattle.std.proofs.Common.{◌≡◌, ◌&&◌, ◌∙◌, ℕ, List, true, false, not, sym}
 use Rattle.std.specs.List.{list_all}
 use Rattle.std.specs.Str.{bytes_eq}
-use Rattle.std.specs.FinSet as set
 use Rattle.gtid.specs.declared.span.Span.{Span}
-use Rattle.replica.specs.Marks.{is_unfinished, is_left_open, NoneUnfinished, NoOtherUnfinished}
+use Rattle.replica.specs.Marks.{is_unfinished, is_left_open, NoOtherUnfinished}
 use Rattle.replica.proofs.CopyMarks.{some_then, none_then, is_same, no_other}
 use Rattle.replica.proofs.change.marks.other_unfinished.Goals as goal
 

@@ -1,4 +1,5 @@
 use Rattle.replica.proofs.Names.{Ok, Err, refl, subst, Ids}
+use Rattle.replica.proofs.Notices.{excludes_by}
 use Rattle.replica.proofs.Keeps.{keeps_noticed, keeps_then, since_opened, since_then}
 use Rattle.replica.proofs.file.followed.connect_and_follow.Goals as goal
 
@@ -18,8 +19,8 @@ returns-in-Err-clause-connects g c clean held holds =
 
 pub returns-in-Ok-clause-keeps : goal.returns-in-Ok-clause-keeps
 returns-in-Ok-clause-keeps g c =
-    since_then g.S.Store (λ some. absurd (some refl)) refl (λ some. absurd (some refl)) (since_opened g.S.Store c.executed-executed.ensures.value c.opened.ensures.noticed c.opened.ensures.excludes)
+    since_then g.S.Store (λ some. absurd (some refl)) refl (λ some. absurd (some refl)) (since_opened g.S.Store c.executed-executed.ensures.value c.opened.ensures.noticed (excludes_by (g.W.Observer.account c.args.observer.now) (g.W.Observer.account c.opened.new.self) c.executed-executed.result.now c.following.ensures c.opened.ensures.excludes))
     (keeps_then g.S.Store (keeps_noticed g.S.Store c.connected.ensures.noticed) c.follow_observed-end.ensures.keeps)
 
 pub returns-in-Err-clause-keeps : goal.returns-in-Err-clause-keeps
-returns-in-Err-clause-keeps g c = since_opened g.S.Store c.executed-executed.ensures.value c.opened.ensures.noticed c.opened.ensures.excludes
+returns-in-Err-clause-keeps g c = since_opened g.S.Store c.executed-executed.ensures.value c.opened.ensures.noticed (excludes_by (g.W.Observer.account c.args.observer.now) (g.W.Observer.account c.opened.new.self) c.executed-executed.result.now c.following.ensures c.opened.ensures.excludes)

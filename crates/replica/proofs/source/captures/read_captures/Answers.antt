@@ -11,6 +11,7 @@ use Rattle.replica.specs.Capture.{AreReadUpTo}
 use Rattle.replica.proofs.ObserverEnds.{ends_later, more_ends, none_yet, one_at_most}
 use Rattle.replica.proofs.WaitSets.{missing_first}
 use Rattle.replica.proofs.CaptureList.{no_captures, captures_more, breaks_off}
+use Rattle.replica.proofs.Notices.{excludes_by}
 use Rattle.replica.proofs.Keeps.{keeps_then, keeps_ended, since_opened, since_then, misses_then}
 use Rattle.replica.proofs.source.captures.read_captures.Goals as goal
 
@@ -23,7 +24,7 @@ loop-capture-init g c = record {
   room = search rules;
   keeps =
       subst (λ (l : List Ended). KeepsSinceOpening g.S.Store c.args.store.now c.args.store.now (g.W.Observer.account c.args.observer.now) (g.W.Observer.account c.opened.new.self) l) (sym c.requires.none)
-      (since_opened g.S.Store c.executed.ensures.value c.opened.ensures.noticed c.opened.ensures.excludes);
+      (since_opened g.S.Store c.executed.ensures.value c.opened.ensures.noticed (excludes_by (g.W.Observer.account c.args.observer.now) (g.W.Observer.account c.opened.new.self) c.executed.result.now c.following.ensures c.opened.ensures.excludes));
   missed = λ clean was old holds.
       missing_first (g.W.Observer.account c.args.observer.now).waits (g.W.Observer.account c.opened.new.self).waits c.executed.result.now old.executed (c.executed.ensures.value was old holds) c.opened.ensures.noticed.waits (sym c.is_done.ensures.done ∙ c.if-is_done.false);
   taken = λ h was old holds.
@@ -104,7 +105,7 @@ returns-then-is_done-clause-reads g c clean was old holds =
 pub returns-then-is_done-clause-keeps : goal.returns-then-is_done-clause-keeps
 returns-then-is_done-clause-keeps g c =
     subst (λ (l : List Ended). KeepsSinceOpening g.S.Store c.args.store.now c.args.store.now (g.W.Observer.account c.args.observer.now) (g.W.Observer.account c.opened.new.self) l) (sym c.requires.none)
-    (since_opened g.S.Store c.executed.ensures.value c.opened.ensures.noticed c.opened.ensures.excludes)
+    (since_opened g.S.Store c.executed.ensures.value c.opened.ensures.noticed (excludes_by (g.W.Observer.account c.args.observer.now) (g.W.Observer.account c.opened.new.self) c.executed.result.now c.following.ensures c.opened.ensures.excludes))
 
 pub returns-in-Err-clause-keeps : goal.returns-in-Err-clause-keeps
 returns-in-Err-clause-keeps g c =

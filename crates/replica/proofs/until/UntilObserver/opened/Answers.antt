@@ -17,7 +17,6 @@ returns g c =
             either_stays (is_over was) (g.W.Observer.account c.args.self.now.inner).has_stopped (is_over c.without.result) (g.W.Observer.account c.opened.new.self).has_stopped
             (left_none was taken c.without.result left) c.opened.ensures.noticed.stays;
       };
-      excludes = λ asks source begun.
-          or_right (is_over c.without.result) (g.W.Observer.account c.opened.new.self).has_stopped (c.opened.ensures.excludes asks source begun);
+      excludes = λ out. or_right (is_over c.without.result) (g.W.Observer.account c.opened.new.self).has_stopped (c.opened.ensures.excludes out);
       seen = c.opened.ensures.seen;
     }

@@ -1,4 +1,4 @@
-use Rattle.replica.proofs.Names.{List, [], ◌∷◌, ap, subst, ChangeValue, DeliveryValue, delivery_value}
+use Rattle.replica.proofs.Names.{List, [], ◌∷◌, ap, subst, ChangeValue, delivery_value}
 use Rattle.gather.specs.Given.{GivesOne, empty_of}
 use Rattle.replica.proofs.LastOnes.{gives_first, gives_last, gives_none, gives_error}
 use Rattle.replica.proofs.change.then_last.ThenLastDeliveries.next.Goals as goal

@@ -1,0 +1,93 @@
+#!/usr/bin/env python3
+"""What a database without rows costs: streams of transactions of one row are replayed with a feed into a database that keeps rows
+and into one that keeps none, each in pieces of the same size; transactions a second of the clock and of a processor, the size of
+the database, its memory, and the seconds and the memory of opening it. Databases and feeds are in /dev/shm, where there is one.
+
+    bench/feed_only.py PROGRAM [TRANSACTIONS]..
+
+TRANSACTIONS (20,000) are how many; above 200,000 of a database without rows alone. It prints rows of the table of README.md.
+"""
+
+import os
+import struct
+import subprocess
+import sys
+import tempfile
+import time
+
+sys.path.insert(0, os.path.join(os.path.dirname(os.path.abspath(__file__)), '..', 'tests', 'lib'))
+import scripted
+from events import BEGIN, FORMAT, event, gtid
+from mrep import OPENING
+from streams import packets
+
+PROGRAM = os.path.abspath(sys.argv[1])
+COUNTS = [int(word) for word in sys.argv[2:]] or [20_000]
+# The most transactions of a stream, and from how many on no rows are kept.
+PIECE, LARGE, RUNS = 1_000_000, 200_000, 3
+MAP = event(19, (1).to_bytes(6, 'little') + b'\1\0\4shop\0\5items\0\2\x03\x0f\2\x14\0\2')
+
+
+def stream(name, first, last):
+    """A stream of the transactions with these numbers, each with a row of an INT and a VARCHAR."""
+    with open(name, 'wb') as file:
+        file.write(OPENING)
+        at = 1
+        for begin in range(first, last + 1, 1000):
+            payloads = [FORMAT] if begin == first else []
+            for number in range(begin, min(begin + 1000, last + 1)):
+                row = b'\0' + struct.pack('<I', number) + b'\x09some text'
+                body = (1).to_bytes(6, 'little') + b'\1\0\2\0\2\3' + row
+                payloads += [gtid(number), BEGIN, MAP, event(30, body), event(16, number.to_bytes(8, 'little'))]
+            file.write(packets(payloads, at))
+            at = (at + len(payloads)) % 256
+    return name
+
+
+def measured(*words):
+    """The seconds of a run, those of a processor, and its greatest memory in MiB."""
+    begun = time.time()
+    ran = subprocess.run([sys.executable, '-c', scripted.MEASURED, PROGRAM, *words], stdout=subprocess.DEVNULL, stderr=subprocess.PIPE, check=True)
+    memory, processor, status = ran.stderr.split()[-3:]
+    if int(status):
+        sys.exit(f'feed_only: {words[0]} ends with {int(status)}: {ran.stderr.decode()}')
+    return time.time() - begun, float(processor), float(memory)
+
+
+def removed(db):
+    for name in (db, f'{db}-wal', f'{db}.feed'):
+        if os.path.exists(name):
+            os.remove(name)
+
+
+def run(folder, count, words):
+    """Replays the transactions. Answers the seconds, those of a processor, and the greatest memory."""
+    db = os.path.join(folder, 'db')
+    removed(db)
+    clock = processor = memory = 0.0
+    for first in range(1, count + 1, PIECE):
+        name = stream(os.path.join(folder, 'stream'), first, min(first + PIECE - 1, count))
+        one = measured('replay', '--db', db, *words, '--changes', f'{db}.feed', name)
+        clock, processor, memory = clock + one[0], processor + one[1], max(memory, one[2])
+        # The feed of the pieces before is not looked at.
+        with open(f'{db}.feed', 'r+b') as feed:
+            feed.truncate(0)
+            feed.write(b'{"type":"open","executed":"","bytes":"hex"}\n')
+    return clock, processor, memory
+
+
+def main():
+    with tempfile.TemporaryDirectory(dir='/dev/shm' if os.path.isdir('/dev/shm') else None) as folder:
+        db = os.path.join(folder, 'db')
+        print('| Transactions | Rows | a second, by the clock | of a processor | MiB | database, KiB | opened in, s | with MiB |\n|---|---|---|---|---|---|---|---|')
+        for count in COUNTS:
+            for kind, words in (('kept', []), ('none', ['--feed-only'])):
+                if kind == 'kept' and count > LARGE:
+                    continue
+                runs = [run(folder, count, words) for _ in range(RUNS if count <= LARGE else 1)]
+                clock, processor, memory = (min(parts) for parts in zip(*runs))
+                opened = min(measured('gtids', '--db', db) for _ in range(RUNS))
+                print(f'| {count:,} | {kind} | {count / clock:,.0f} | {count / processor:,.0f} | {memory:.0f} | {os.path.getsize(db) / 1024:,.0f} | {opened[0]:.3f} | {opened[2]:.0f} |', flush=True)
+
+
+main()
