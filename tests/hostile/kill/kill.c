@@ -1,13 +1,18 @@
 /* Kills a program that is linked with the C library before its call number KILL_AT, from 1, of those that change a file or
    wait for the disk. With KILL_TORN set, half of what the call would have written is written first; with KILL_LOSES set, the
-   file of this name loses what was written to it since it was synced, as a power failure may take it. To be loaded before
-   the library (LD_PRELOAD). */
+   file of this name loses what was written to it since it was synced, as a power failure may take it. With KILL_KEEPS set
+   nothing is killed: before each of these calls, and again after half of a write, the files of the folder KILL_FOLDER are copied
+   to a new folder within KILL_KEEPS, so that one run gives what a kill at each call would leave. To be loaded before the library
+   (LD_PRELOAD). */
 #define _GNU_SOURCE
+#include <dirent.h>
 #include <dlfcn.h>
 #include <fcntl.h>
 #include <signal.h>
 #include <stdarg.h>
+#include <stdio.h>
 #include <stdlib.h>
+#include <string.h>
 #include <sys/stat.h>
 #include <sys/types.h>
 #include <unistd.h>
@@ -18,7 +23,13 @@ static long left;
 static const char *loses;
 static off_t synced;
 
+/* Where the files of which folder are copied to, how often they were, and whether they are being copied now. */
+static const char *keeps, *folder;
+static int kept, copying;
+
 __attribute__((constructor)) static void begin(void) {
+    keeps = getenv("KILL_KEEPS");
+    folder = getenv("KILL_FOLDER");
     const char *at = getenv("KILL_AT");
     struct stat found;
     left = at ? atol(at) : 0;
@@ -26,7 +37,51 @@ __attribute__((constructor)) static void begin(void) {
     synced = loses && !stat(loses, &found) ? found.st_size : 0;
 }
 
-static int is_last(void) { return left > 0 && --left == 0; }
+static void copy_file(const char *from, const char *to) {
+    static char bytes[65536];
+    ssize_t size = 0;
+    int in = open(from, O_RDONLY), out = open(to, O_CREAT | O_WRONLY | O_TRUNC, 0600);
+    while (in >= 0 && out >= 0 && (size = read(in, bytes, sizeof bytes)) > 0 && write(out, bytes, (size_t)size) == size) {}
+    if (in < 0 || out < 0 || size) abort();
+    close(in);
+    close(out);
+}
+
+/* What a kill would leave now. */
+static void keep(void) {
+    char to[512], from[512], file[1024], first[1024] = "";
+    struct dirent *entry;
+    struct stat found;
+    ino_t before = 0;
+    if (!keeps || copying) return;
+    copying = 1;
+    snprintf(to, sizeof to, "%s/%d", keeps, kept++);
+    DIR *files = opendir(folder);
+    if (!files || mkdir(to, 0700)) abort();
+    while ((entry = readdir(files))) {
+        if (entry->d_name[0] == '.') continue;
+        snprintf(from, sizeof from, "%s/%s", folder, entry->d_name);
+        snprintf(file, sizeof file, "%s/%s", to, entry->d_name);
+        /* A second name of a file stays one. */
+        if (stat(from, &found)) abort();
+        if (found.st_nlink > 1 && found.st_ino == before) {
+            if (link(first, file)) abort();
+            continue;
+        }
+        if (found.st_nlink > 1) {
+            before = found.st_ino;
+            memcpy(first, file, sizeof first);
+        }
+        copy_file(from, file);
+    }
+    closedir(files);
+    copying = 0;
+}
+
+static int is_last(void) {
+    keep();
+    return left > 0 && --left == 0;
+}
 
 static void end(void) {
     struct stat found;
@@ -69,8 +124,27 @@ static int note(int file, int result) {
             if (getenv("KILL_TORN")) (void)!next arguments;           \
             end();                                                    \
         }                                                             \
+        if (keeps && !copying && size > 1) return name##_in_two arguments; \
         return next arguments;                                        \
     }
+
+static ssize_t write_in_two(int file, const void *bytes, size_t size) {
+    ssize_t (*next)(int, const void *, size_t) = (ssize_t (*)(int, const void *, size_t))dlsym(RTLD_NEXT, "write");
+    ssize_t half = next(file, bytes, size / 2);
+    if (half != (ssize_t)(size / 2)) return half;
+    keep();
+    ssize_t rest = next(file, (const char *)bytes + half, size - (size_t)half);
+    return rest < 0 ? rest : half + rest;
+}
+
+static ssize_t pwrite_in_two(int file, const void *bytes, size_t size, off_t at) {
+    ssize_t (*next)(int, const void *, size_t, off_t) = (ssize_t (*)(int, const void *, size_t, off_t))dlsym(RTLD_NEXT, "pwrite");
+    ssize_t half = next(file, bytes, size / 2, at);
+    if (half != (ssize_t)(size / 2)) return half;
+    keep();
+    ssize_t rest = next(file, (const char *)bytes + half, size - (size_t)half, at + half);
+    return rest < 0 ? rest : half + rest;
+}
 
 SYNC(fsync)
 SYNC(fdatasync)
