@@ -12,6 +12,10 @@ from .sets import parse as parse_set
 from .statements import Tables
 
 
+# What the name of all tables is in the filter of a database that keeps no rows; other names there begin with a text as long.
+ALL = b'mrep reads all tables and keeps no row of them. No table of a server has a name as long as this one. '.ljust(256, b'-')
+
+
 def read(path: str) -> Tuple[GtidSet, Tables, bool]:
     """The executed set and the filter, and whether there is a database: a new one has neither. It is opened for reading, and
     closed before `mrep` opens it, since that keeps others out."""
@@ -24,20 +28,29 @@ def read(path: str) -> Tuple[GtidSet, Tables, bool]:
     try:
         base = sqlite3.connect(f'{Path(path).absolute().as_uri()}?mode=ro', uri=True, timeout=1)
         try:
-            names = {name for name, in base.execute("SELECT name FROM sqlite_master WHERE type = 'table'")}
-            if 'spans' not in names:
-                if 'executed' in names:
+            made = {name for name, in base.execute("SELECT name FROM sqlite_master WHERE type = 'table'")}
+            if 'spans' not in made:
+                if 'executed' in made:
                     raise Fault(f'{path}: it has the older layout: `mrep gtids --db {path}` migrates it')
                 return {}, [], False
             held: GtidSet = {}
             for source, low, high in base.execute('SELECT source, lo, hi FROM spans'):
                 held.setdefault(bytes(source), []).append((low, high))
-            tables = [(bytes(schema), bytes(table)) for schema, table in base.execute('SELECT schema_name, table_name FROM follow')]
+            names = [(bytes(schema), bytes(table)) for schema, table in base.execute('SELECT schema_name, table_name FROM follow')]
+            tables = [] if names == [(ALL, b'')] else [read_of(*name) for name in names]
             return {source: merged(spans) for source, spans in held.items()}, tables, True
         finally:
             base.close()
     except sqlite3.Error as error:
         raise Fault(f'{path}: {error}' + (': another process has it open' if 'locked' in str(error) else ''), RETRY) from error
+
+
+def read_of(schema: bytes, table: bytes) -> Tuple[bytes, bytes]:
+    """The tables that a name of the filter means: one, or all of a schema by the name `*`, which no rule reads. Those of a database
+    without rows begin with a text."""
+    if len(schema) < len(ALL):
+        return schema, table
+    return schema[len(ALL):], table or b'*'
 
 
 def named(words: List[str]) -> Tables:
