@@ -2,15 +2,15 @@
 
     python3 tests/program/pages/length.py ROOT
 
-All pages together have at most so many words (as `wc -w` counts), the first one so many lines, and no sentence of it more than so
-many words; a page of docs/operating so many lines."""
+All pages together have at most so many words, the first one so many lines, and no sentence of it more than so many words; a page of
+docs/operating so many lines. A word has a letter or a digit: `wc -w` counts the bars of tables too, some 6,000."""
 import glob
 import os
 import re
 import sys
 
 root = os.path.abspath(sys.argv[1])
-WORDS = 62_800
+WORDS = 51_250
 FIRST_LINES, SENTENCE, LINES = 90, 25, 150
 PAGES = ('README.md', 'docs/**/*.md', 'crates/*/*.md', 'bench/*.md', 'proxy/*.md', 'samples/*.md', 'sinks/*.md')
 bad = []
@@ -31,7 +31,7 @@ def sentences(text):
 
 
 pages = sorted({path for pattern in PAGES for path in glob.glob(pattern, root_dir=root, recursive=True)})
-words = {page: len(read(page).split()) for page in pages}
+words = {page: len(re.findall(r'\S*\w\S*', read(page))) for page in pages}
 if sum(words.values()) > WORDS:
     bad.append(f'the pages have {sum(words.values())} words, and {WORDS} are allowed')
 for page in pages:

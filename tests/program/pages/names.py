@@ -10,7 +10,6 @@
   which has no name, says to hold.
 - In a crate's page: the first column of a table `Function` or `Law` names functions of the crate, and its second
   column clauses of theirs.
-- A table `File` | `Lines`: the file has about so many lines.
 
 And that a word of `specs/` and a type of `src/` is defined in one file alone, so that it means one thing.
 """
@@ -172,7 +171,7 @@ def tables(page, crate, text):
     for line in text.split('\n'):
         cells = [cell.strip() for cell in line.strip('|').split(' | ')] if line.startswith('|') else []
         if not cells: kind = None; continue
-        if cells[0] in ('Function', 'Law', 'File', 'Promise'): kind = cells[0]; continue
+        if cells[0] in ('Function', 'Law', 'Promise'): kind = cells[0]; continue
         if kind in ('Function', 'Law') and crate and not re.fullmatch(r'[|\- ]+', cells[0]):
             named = re.findall(r'`([\w:]+)`', cells[0])
             if named: functions = named
@@ -181,10 +180,6 @@ def tables(page, crate, text):
                 if not (name in known or '::'.join(name.split('::')[-2:]) in known): yield f'no function {name}'
             for clause in re.findall(r'`(\w+)`', cells[1]) if len(cells) > 2 else []:
                 if not has_clause([(crate, name) for name in functions], clause): yield f'no clause {clause} of {functions}'
-        if kind == 'File' and len(cells) > 1 and cells[1].isdigit():
-            path = re.search(r'`([^`]+)`', cells[0]).group(1)
-            lines = read(os.path.join(root, path)).count('\n') if os.path.exists(os.path.join(root, path)) else 0
-            if abs(lines - int(cells[1])) > max(10, lines // 5): yield f'{path} has {lines} lines'
 
 
 def twice():
