@@ -33,7 +33,7 @@ TYPES = [('id', 'int', 'NULL', 'PRI'), ('big', 'bigint', 'NULL', ''), ('at', 'da
 # The most memory, in MiB, of how many runs the best one counts, and from how many changes on there is one.
 MEMORY, RUNS, LONG = 64, 2, 1_000_000
 UP_TO = sorted({CHANGES, *[MOST] * (MOST > LONG)})
-# The mock cluster of Kafka's library, whose sockets get what those of a broker have, TCP_NODELAY: without it each commit waits some
+# The mock cluster of Kafka's library, whose sockets get what those of a broker have, TCP_NODELAY: without it most commits wait some
 # 40 ms for an acknowledgement of TCP.
 MOCK = '''import os, socket, sys, threading, time
 from confluent_kafka import Producer
