@@ -1,5 +1,5 @@
 -- A failure that is told with a kind has its status.
-use Rattle.std.proofs.Common.{◌≡◌, ℕ, sym, subst}
+use Rattle.std.proofs.Common.{ℕ, sym, subst}
 use Rattle.mrep.specs.Failure.{IsTold, Tells, kind_status}
 use Rattle.mrep.specs.declared.report.failure.Failure.{Failure}
 use Rattle.mrep.specs.declared.report.failure.Failure.TheVariants.{Memory, Output, Told}

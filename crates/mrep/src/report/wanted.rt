@@ -50,6 +50,14 @@ pub fn waited(is_out_of_memory: bool) -> Result<(), Failure> {
     Ok(())
 }
 
+/// The filter of a database that keeps no rows, of the tables of this list.
+fn not_kept(alloc: Global, names: &[(Vec<u8>, Vec<u8>)]) -> Result<Option<Follow>, Failure> {
+    match Follow::not_kept(alloc, names) {
+        Ok(filter) => Ok(Some(filter)),
+        Err(_) => Err(Failure::Memory),
+    }
+}
+
 /// Whether one of the names means all tables of a schema, where no rows are kept.
 fn has_pattern(filter: &Follow) -> bool {
     filter
@@ -89,20 +97,16 @@ impl<'g, 'a> Wanted<'g, 'a> {
     /// The filter of the database: of the tables that are named, or, where no rows are kept, of all for a new one. None is that
     /// of the database.
     pub fn only(&self, rt: &HostRuntime) -> Result<Option<Follow>, Failure> {
-        let named = self.filter(rt.alloc())?;
+        let alloc = rt.alloc();
+        let named = self.filter(alloc)?;
         if !self.feed_only {
             return Ok(named);
         }
-        let kept = kept_in(rt, self.db);
-        let names = match &named {
-            _ if kept == Kept::Rows => return Err(unusable(rt.alloc(), self.db, KEEPS_ROWS)),
-            Some(filter) => filter.names(),
-            None if kept == Kept::None => return Ok(None),
-            None => &[],
-        };
-        match Follow::not_kept(rt.alloc(), names) {
-            Ok(filter) => Ok(Some(filter)),
-            Err(_) => Err(Failure::Memory),
+        match (kept_in(rt, self.db), named) {
+            (Kept::Rows, _) => Err(unusable(alloc, self.db, KEEPS_ROWS)),
+            (Kept::None, None) => Ok(None),
+            (_, Some(named)) => not_kept(alloc, named.names()),
+            (_, None) => not_kept(alloc, &[]),
         }
     }
 
