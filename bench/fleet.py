@@ -128,6 +128,7 @@ def paced(sources: Sources, count: int) -> None:
 
 
 def shown(what: str, group: Group, idle: float, busy: float) -> None:
+    """Prints a row: what these use, with the seconds of a processor in which nothing came and in which something did."""
     alone = [field(f'/proc/{it.pid}/status', 'VmHWM') / 1024 for it in group]
     share = sum(field(f'/proc/{it.pid}/smaps_rollup', 'Pss') for it in group) / 1024 / FOLLOWERS
     idle, busy = idle / SECONDS / FOLLOWERS, busy / SECONDS / FOLLOWERS
