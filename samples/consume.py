@@ -39,6 +39,8 @@ def main():
     for changes in reader.transactions(options.feed, options.follow):
         base.execute('BEGIN IMMEDIATE')
         for change in changes:
+            if change['type'] == 'truncate':
+                base.execute('DELETE FROM rows WHERE "schema" = ? AND name = ?', (change['schema'], change['table']))
             for row, key, count in read_feed.rows(change):
                 base.execute(ADD, (change['schema'], change['table'], row, key, count))
                 base.execute(REMOVE, (change['schema'], change['table'], row))

@@ -33,6 +33,8 @@ def literal(value):
 
 
 def statements(change):
+    if change['type'] == 'truncate':
+        yield f'DELETE FROM feed_rows WHERE schema = {literal(change["schema"])} AND name = {literal(change["table"])};\n'
     for row, key, count in read_feed.rows(change):
         place = [literal(value) for value in (change['schema'], change['table'], hashlib.sha256(row.encode()).hexdigest())]
         yield (f'INSERT INTO feed_rows VALUES ({", ".join(place)}, {literal(row)}, {literal(key)}, {count}) '

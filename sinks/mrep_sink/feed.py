@@ -32,7 +32,7 @@ HEAD = b'{"type":'
 LARGE, CHUNK = 1 << 20, 1 << 16
 # The seconds between two looks at a file that grows.
 LOOK = 0.2
-CHANGES = frozenset(('insert', 'update', 'delete', 'skip'))
+CHANGES = frozenset(('insert', 'update', 'delete', 'truncate', 'skip'))
 ENDS = ('open', 'commit', 'rollback')
 FORMS = ('hex', 'base64', 'utf8')
 

@@ -24,7 +24,7 @@ from .sink import Place, SqlSink, Target
 WAIT, TRANSACTION_MS = 60, 900_000
 LONGEST_TOPIC = 249
 PLACE, ENDS = 'place', 'transactions'
-OPS = {'insert': 'c', 'update': 'u', 'delete': 'd'}
+OPS = {'insert': 'c', 'update': 'u', 'delete': 'd', 'truncate': 't'}
 ALLOWED = frozenset('abcdefghijklmnopqrstuvwxyzABCDEFGHIJKLMNOPQRSTUVWXYZ0123456789_-')
 encode = json.JSONEncoder(ensure_ascii=False, separators=(',', ':')).encode
 Headers = List[Tuple[str, bytes]]
@@ -270,6 +270,11 @@ class KafkaSink(SqlSink[Topic]):
                 self.move(target, change, old, key, headers, transaction)
                 continue
             value = change[LINE][:-1] if is_feed else self.value(change, before, after, transaction)
+            if change['type'] == 'truncate':
+                # Each partition has rows that go.
+                for partition in range(self.options.partitions if target.table.keys else 1):
+                    self.produce(target.topic, None, value, headers, partition)
+                continue
             self.produce(target.topic, key, value, headers, target.partition)
             if old and not after:
                 self.produce(target.topic, old, None, headers)

@@ -15,7 +15,7 @@ except ImportError as missing:
 
 from .description import Column, Row, Table, digest_of
 from .faults import ACT, RETRY, USAGE, Fault, shown
-from .feed import Transaction, place_text, read_set
+from .feed import Item, Transaction, place_text, read_set
 from .options import Options
 from .report import Report
 from .sink import Entry, Place, SqlSink, Target
@@ -407,6 +407,15 @@ class PostgresSink(SqlSink[PostgresTable]):
             self.refuse(target, entries[0], 'there is no such row: this is not the sink of this feed, or it was changed')
         if self.options.history:
             self.keep_history(target, kind, entries)
+
+    def empty(self, target: PostgresTable, change: Item, committed: Optional[int]) -> None:
+        base = self.connect()
+        if self.options.history:
+            sides = ', '.join([*map(quoted, target.table.names), *(f'NULL::{kind}' for kind in target.types)])
+            gone = base.execute(f"INSERT INTO {target.history} SELECT %s + row_number() OVER (), %s, %s, NULL, %s, 'd', {sides} "
+                                f'FROM {target.name}', (self.seq, change['gtid'], change['n'], committed))
+            self.seq += gone.rowcount
+        base.execute(f'DELETE FROM {target.name}')
 
     def insert(self, copying: str, insertion: str, rows: List[List[Any]]) -> int:
         """Adds rows, and answers how many."""

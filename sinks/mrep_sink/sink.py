@@ -65,6 +65,10 @@ class SqlSink(Sink, Generic[T]):
         """Makes a run of changes of one table and one kind, each of which changes one row."""
         raise NotImplementedError
 
+    def empty(self, target: T, change: Item, committed: Optional[int]) -> None:
+        """Takes all rows of a table out, at a `truncate`."""
+        raise NotImplementedError
+
     def use(self, batch: List[Transaction], is_careful: bool) -> None:
         """Makes the changes of transactions, in runs of one table and one kind, in order."""
         target: Optional[T] = None
@@ -86,6 +90,9 @@ class SqlSink(Sink, Generic[T]):
                     if target and entries:
                         self.flush(target, kind, entries)
                     target, kind, entries = wanted, change['type'], []
+                if kind == 'truncate':
+                    self.empty(wanted, change, committed)
+                    continue
                 before, after = change.get('before'), change.get('after')
                 entries.append((None if before is None else wanted.values(before, form),
                                 None if after is None else wanted.values(after, form), change, committed))

@@ -6,7 +6,7 @@ from typing import Any, Dict, Iterable, List, Optional, Tuple
 
 from .description import CHARACTERS, INTEGERS, MEMBERS, REALS, TEXTS, Column, Row, Table, digest_of
 from .faults import RETRY, USAGE, Fault
-from .feed import Transaction, place_text, read_set
+from .feed import Item, Transaction, place_text, read_set
 from .options import Options
 from .sink import Entry, Place, SqlSink, Target
 
@@ -95,6 +95,9 @@ class SqliteTable(Target):
         self.history_creation = f'CREATE TABLE {quoted(self.history_name)} ({", ".join([*HISTORY, *sides])}) STRICT'
         self.history_insertion = f'INSERT INTO {quoted(self.history_name)} VALUES ({", ".join("?" * self.history_columns)})'
         self.nothing = [None] * len(types)
+        # What a `truncate` adds to the history, and takes out.
+        self.gone = (f'INSERT INTO {quoted(self.history_name)} SELECT ? + row_number() OVER (), ?, ?, NULL, ?, \'d\', '
+                     f'{", ".join([*map(quoted, table.names), *["NULL"] * len(types)])} FROM {into}')
 
     def values_for_any(self, row: Dict[str, Any], form: str) -> List[Any]:
         """The values of a row, with integers that SQLite does not have as texts."""
@@ -331,6 +334,13 @@ class SqliteSink(SqlSink[SqliteTable]):
                               *(before or target.nothing), *(after or target.nothing)))
             self.cursor.executemany(target.history_insertion, lines)
             self.seq += len(lines)
+
+    def empty(self, target: SqliteTable, change: Item, committed: Optional[int]) -> None:
+        if self.options.history:
+            self.seq += self.cursor.execute(target.gone, (self.seq, change['gtid'], change['n'], committed)).rowcount
+        self.cursor.execute(f'DELETE FROM {quoted(target.name)}')
+        if not target.table.keys:
+            self.cursor.execute(f'DELETE FROM {quoted(target.rows_name)}')
 
     def change_keyed(self, target: SqliteTable, kind: str, entries: List[Entry]) -> None:
         key_of, done = target.table.key_of, self.cursor

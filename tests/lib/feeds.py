@@ -16,6 +16,9 @@ def folded(*feeds):
     found, reader = collections.Counter(), Reader('', adopt=True)
     for changes in reader.transactions([*feeds]):
         for change in changes:
+            if change['type'] == 'truncate':
+                for place in [it for it in found if it[:2] == (change['schema'], change['table'])]:
+                    del found[place]
             for row, _, count in rows_of(change):
                 found[change['schema'], change['table'], row] += count
     return +found

@@ -29,8 +29,14 @@ pub enum FeedEntry<'a> {
     Opened(&'a str),
     /// The changes of a transaction that is to be committed.
     Changes(&'a Delivery),
-    /// The transaction has been committed.
-    Committed(&'a Delivery),
+    /// All rows of a table go, in a transaction that is to be committed, and the database has none of them.
+    Emptied {
+        gtid: Gtid,
+        schema: &'a [u8],
+        table: &'a [u8],
+    },
+    /// The transaction has been committed, whose changes have so many lines.
+    Committed(Gtid, usize),
     /// The transaction was refused, and none of its changes is in the database.
     RolledBack(Gtid),
     /// The transaction is to be recorded without changes.
@@ -187,7 +193,7 @@ fn write_to_file(form: Form<'_>, entry: FeedEntry<'_>, file: &FeedFile) -> Resul
     flushed?;
     match entry {
         FeedEntry::Changes(delivery) if delivery.changes.is_empty() => {}
-        FeedEntry::Committed(_) => {}
+        FeedEntry::Committed(..) => {}
         _ => file.sync()?,
     }
     Ok(())
@@ -229,7 +235,12 @@ fn write_entry<W: Write>(
             out.write_all(line.as_bytes())?;
         }
         FeedEntry::Changes(delivery) => write_changes(form, delivery, out)?,
-        FeedEntry::Committed(delivery) => write_commit(form.stamps, delivery, out)?,
+        FeedEntry::Emptied {
+            gtid,
+            schema,
+            table,
+        } => write_emptied(form.alloc, gtid, schema, table, out)?,
+        FeedEntry::Committed(gtid, count) => write_commit(form.stamps, gtid, count, out)?,
         FeedEntry::RolledBack(gtid) => {
             writeln!(out, "{{\"type\":\"rollback\",\"gtid\":\"{gtid}\"}}")?;
         }
@@ -281,8 +292,12 @@ struct ChangePlace {
 }
 
 /// Writes the line of a transaction that has been committed.
-fn write_commit<W: Write>(stamps: &Stamps, delivery: &Delivery, out: &mut W) -> io::Result<()> {
-    let (gtid, count) = (delivery.gtid, delivery.changes.len());
+fn write_commit<W: Write>(
+    stamps: &Stamps,
+    gtid: Gtid,
+    count: usize,
+    out: &mut W,
+) -> io::Result<()> {
     write!(
         out,
         "{{\"type\":\"commit\",\"gtid\":\"{gtid}\",\"changes\":{count}"
@@ -296,6 +311,23 @@ fn write_commit<W: Write>(stamps: &Stamps, delivery: &Delivery, out: &mut W) -> 
     if let Some(number) = stamps.xid {
         write!(out, ",\"xid\":{number}")?;
     }
+    out.write_all(b"}\n")
+}
+
+/// Writes the line of a table of which all rows go.
+fn write_emptied<W: Write>(
+    alloc: Global,
+    gtid: Gtid,
+    schema: &[u8],
+    table: &[u8],
+    out: &mut W,
+) -> io::Result<()> {
+    let place = ChangePlace {
+        gtid,
+        number: 0,
+        seconds: None,
+    };
+    write_head(alloc, "truncate", place, schema, table, out)?;
     out.write_all(b"}\n")
 }
 

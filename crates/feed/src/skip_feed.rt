@@ -3,7 +3,6 @@
 use crate::change_feed::{Feed, FeedEntry};
 use crate::stamps::Stamps;
 use files::FileFault;
-use gather::{Changes, Delivery};
 use gtid::Gtid;
 use rows::RowError;
 use std::alloc::Global;
@@ -58,16 +57,10 @@ impl SkipFeed<'_> {
 
 impl Skipping {
     /// Writes whether it was recorded, if that is known.
-    pub fn end(&mut self, alloc: Global, is_recorded: Option<bool>) -> Result<(), SkipError> {
+    pub fn end(&mut self, is_recorded: Option<bool>) -> Result<(), SkipError> {
         let gtid = self.gtid;
         match is_recorded {
-            Some(true) => {
-                let delivery = Delivery {
-                    gtid,
-                    changes: Changes::new(alloc),
-                };
-                self.put(FeedEntry::Committed(&delivery))
-            }
+            Some(true) => self.put(FeedEntry::Committed(gtid, 0)),
             Some(false) => self.put(FeedEntry::RolledBack(gtid)),
             None => Ok(()),
         }

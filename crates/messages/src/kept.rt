@@ -2,7 +2,7 @@
 
 /// Of a database that keeps no rows, where a command changes or reads them.
 pub const KEEPS_NONE: &str =
-    "it was made with --feed-only and keeps no rows: the file of --changes has them, and follow and replay take it with --feed-only";
+    "it was made with --feed-only and keeps no rows: the file of --changes has them, and follow, replay, load, clear and abandon take it with --feed-only";
 
 /// Of a database that keeps rows, where --feed-only is given.
 pub const KEEPS_ROWS: &str =

@@ -30,6 +30,14 @@ pub fn write_unloadable<E: Write>(name: &str, why: &Unloadable, err: &mut E) -> 
             write_table(&table.schema, &table.table, err)?;
             writeln!(err)
         }
+        Unloadable::NotFirst(table) => {
+            write!(err, "mrep: {}: it keeps no rows of ", Shown(name))?;
+            write_table(&table.schema, &table.table, err)?;
+            writeln!(
+                err,
+                " and has executed transactions, so that nothing says whether the table was copied before: load one copy of all tables into a new database"
+            )
+        }
         Unloadable::HasRows(table) => {
             write!(err, "mrep: {}: ", Shown(name))?;
             write_table(&table.schema, &table.table, err)?;

@@ -1,5 +1,5 @@
 -- A store while the rows of one table are taken out of it.
-use Rattle.replica.proofs.Names.{◌≡◌, inl, inr, ℕ, arith, Bool, true, false, List, [], ◌∷◌, ◌++◌, length, Option, Some, None, Result, Ok, Err, IfErr, IsTrue, refl, sym, ap, subst, subst₂, ◌∙◌, append_assoc, append-nil, replicate, if◌then◌else◌, cases_Bool, false≢true, Ghosts, Trees, Held, Ids, CellValue, Names, admits, ChangeValue, Content, HasOutcome, done, AreDone, IsRefusedAt, Entry, StoreFault, ListError, Store, HasFailed, HoldsAs, AreOf, NoSuchRow, CountFull, Reason, Refused, Database, Memory, Halted, Account, HasNotices, StillWaits, WereMissed, has_failure, IsLeftOfNoted, IsNotedSinceOpening, IsLedOver, IsLedSinceOpening, TakesAlone, HasStayed}
+use Rattle.replica.proofs.Names.{◌≡◌, inl, inr, ℕ, arith, Bool, true, false, List, [], ◌∷◌, ◌++◌, length, Option, Some, None, Result, Ok, Err, IfErr, IsTrue, refl, sym, ap, subst, subst₂, ◌∙◌, append_assoc, append-nil, replicate, if◌then◌else◌, cases_Bool, false≢true, Ghosts, Trees, Held, Ids, CellValue, Names, admits, is_read, ChangeValue, Content, HasOutcome, done, AreDone, IsRefusedAt, Entry, StoreFault, ListError, Store, HasFailed, HoldsAs, AreOf, NoSuchRow, CountFull, Reason, Refused, Database, Memory, Halted, Account, HasNotices, StillWaits, WereMissed, has_failure, IsLeftOfNoted, IsNotedSinceOpening, IsLedOver, IsLedSinceOpening, TakesAlone, HasStayed}
 use Rattle.std.proofs.Common.{OnOk}
 use Rattle.std.specs.Prelude.{flat_map, MatchOption}
 use Rattle.std.specs.FinSet as set
@@ -9,6 +9,7 @@ use Rattle.binlog.specs.declared.body.table_map.TableDef.{TableDef}
 use Rattle.gather.specs.Image.{IsImage}
 use Rattle.gather.specs.Transaction.{delete}
 use Rattle.gather.proofs.WholeImages.{one_list}
+use Rattle.store.specs.declared.row_change.Refusal.{Refusal}
 use Rattle.store.specs.declared.row_change.Refusal.TheVariants as why
 use Rattle.store.specs.Faults.{IsFailure}
 use Rattle.store.specs.Listing.{Accepts, Lists}
@@ -23,9 +24,9 @@ use Rattle.replica.specs.declared.change.clearing.TableRows.{TableRows}
 use Rattle.replica.specs.Noted.{Excludes, opened}
 use Rattle.replica.specs.Alone.{IsOwnOrHalted}
 use Rattle.replica.specs.Copies.{HasJust}
-use Rattle.replica.specs.Clear.{TableClear, IsCleared, is_in_table, IsToBeCleared, IsClearedAt, MayEndClear}
+use Rattle.replica.specs.Clear.{TableClear, IsClearedWhere, IsClearedBy, is_in_table, IsToBeCleared, IsClearedAt, MayEndClear}
 use Rattle.replica.specs.Clearing.{deletes_of, AreDeletesOf, AppendsDeletes, TakesRow, gathered_of, end_by, ListsDeletes, HasCleared, IsClearedSinceOpening}
-use Rattle.replica.proofs.RowDeletes.{others_stay, all_gone, none_refused, as_many}
+use Rattle.replica.proofs.RowDeletes.{others_stay, all_gone, none_refused, all_skipped, none_of_them_refused, as_many}
 use Rattle.replica.proofs.Notices.{weaker_leaves, since_through, none_let}
 use Rattle.replica.proofs.InOrder.{whole_leaves}
 
@@ -70,23 +71,37 @@ all_taken (e ∷ es) v w folds =
 
 -- ---- What a transaction of deletes comes to.
 
-module _ (names : Names) (clear : TableClear) (old : Content) (changes : List ChangeValue) (are : AreDeletesOf clear.schema clear.table old.rows changes) (followed : admits names clear.schema clear.table ≡ true) where
-  is_cleared : (new : Content) → HasOutcome names old (record { source = clear.source; number = clear.number; changes = changes }) (done new) → IsCleared clear old new
-  is_cleared new outcome =
+module _ (names : Names) (clear : TableClear) (old : Content) (changes : List ChangeValue) (are : AreDeletesOf clear.schema clear.table old.rows changes) where
+  cleared_where : (new : Content) (kept : Bool) → admits names clear.schema clear.table ≡ kept → HasOutcome names old (record { source = clear.source; number = clear.number; changes = changes }) (done new) → IsClearedWhere kept clear old new
+  cleared_where new true followed outcome =
       let all : AreDone names (flat_map (deletes_of clear.schema clear.table) are.entries) old.rows new.rows = subst (λ cs. AreDone names cs old.rows new.rows) are.changes_are outcome.1 in
       record {
         executed = outcome.2;
         gone = all_gone names clear.schema clear.table followed old.rows new.rows are.entries are.lists all;
         others = others_stay names clear.schema clear.table followed are.entries old.rows new.rows all;
       }
+  cleared_where new false left_out outcome = record {
+    executed = outcome.2;
+    rows = all_skipped names clear.schema clear.table left_out are.entries old.rows new.rows (subst (λ cs. AreDone names cs old.rows new.rows) are.changes_are outcome.1);
+  }
+
+  is_cleared : (new : Content) → HasOutcome names old (record { source = clear.source; number = clear.number; changes = changes }) (done new) → IsClearedBy names clear old new
+  is_cleared new outcome = cleared_where new (admits names clear.schema clear.table) refl outcome
+
+  not_refused_where : (at : ℕ) (why : Refusal) (kept : Bool) → admits names clear.schema clear.table ≡ kept → IsRefusedAt names (flat_map (deletes_of clear.schema clear.table) are.entries) old.rows at why → ⊥
+  not_refused_where at why true followed it = none_refused names clear.schema clear.table followed old.rows are.entries at why are.lists it
+  not_refused_where at why false left_out it = none_of_them_refused names clear.schema clear.table left_out old.rows are.entries at why it
+
+  not_refused : {X : Type 0} (at : ℕ) (why : Refusal) → IsRefusedAt names changes old.rows at why → X
+  not_refused at why it = absurd (not_refused_where at why (admits names clear.schema clear.table) refl (subst (λ cs. IsRefusedAt names cs old.rows at why) are.changes_are it))
 
 -- ---- What is asked before.
 
 pub contains_by : (executed ids : Ids) (source : List ℕ) (number : ℕ) (answer known : Bool) → ids ≡ executed → answer ≡ set.contains ids (source, number) → answer ≡ known → set.contains executed (source, number) ≡ known
 contains_by executed ids source number answer known same says is = ap (λ (x : Ids). set.contains x (source, number)) (sym same) ∙ sym says ∙ is
 
-pub admits_by : (names following : Names) (schema table : List ℕ) (answer known : Bool) → following ≡ names → answer ≡ admits following schema table → answer ≡ known → admits names schema table ≡ known
-admits_by names following schema table answer known same says is = ap (λ (n : Names). admits n schema table) (sym same) ∙ sym says ∙ is
+pub reads_by : (names following : Names) (schema table : List ℕ) (answer known : Bool) → following ≡ names → answer ≡ is_read following schema table → answer ≡ known → is_read names schema table ≡ known
+reads_by names following schema table answer known same says is = ap (λ (n : Names). is_read n schema table) (sym same) ∙ sym says ∙ is
 
 -- ---- What was reported.
 
@@ -211,7 +226,7 @@ module _ {S : Type 0} (g : Ghosts S) (settled : (h : Held S) (db : Trees) → Is
   pub repeats : (names : Names) (clear : TableClear) (store : Store S g) (old : Content) → set.contains old.executed (clear.source, clear.number) ≡ true → Holds g store old → HasCleared g names clear store old Repeat
   repeats names clear store old known holds = record { new = old; clears = (known, refl); stays = stays_whole store old _ (inl refl) holds }
 
-  pub not_followed : (names : Names) (clear : TableClear) (store : Store S g) (old : Content) → set.contains old.executed (clear.source, clear.number) ≡ false → admits names clear.schema clear.table ≡ false → Holds g store old → HasCleared g names clear store old NotFollowed
+  pub not_followed : (names : Names) (clear : TableClear) (store : Store S g) (old : Content) → set.contains old.executed (clear.source, clear.number) ≡ false → is_read names clear.schema clear.table ≡ false → Holds g store old → HasCleared g names clear store old NotFollowed
   not_followed names clear store old fresh left_out holds = record { new = old; clears = (fresh, left_out, refl); stays = stays_whole store old _ (inl refl) holds }
 
   pub other_set : (names : Names) (clear : TableClear) (store : Store S g) (old : Content) → IsToBeCleared names clear old → (HasJust old.executed clear.at → ⊥) → Holds g store old → HasCleared g names clear store old OtherSet
@@ -226,8 +241,8 @@ module _ {S : Type 0} (g : Ghosts S) (settled : (h : Held S) (db : Trees) → Is
     not_known : {X : Type 0} → set.contains old.executed (clear.source, clear.number) ≡ true → X
     not_known known = absurd (false≢true (sym is.to_be.fresh ∙ known))
 
-    left_so : (left : Content) → HasOutcome before.following old (record { source = clear.source; number = clear.number; changes = changes }) (done left) → IsCleared clear old left
-    left_so left outcome = is_cleared before.following clear old changes are is.to_be.followed left outcome
+    left_so : (left : Content) → HasOutcome before.following old (record { source = clear.source; number = clear.number; changes = changes }) (done left) → IsClearedBy before.following clear old left
+    left_so left outcome = is_cleared before.following clear old changes are left outcome
 
     by_answer : (answer : Result Bool Reason) → TakesAlone g old (record { source = clear.source; number = clear.number; changes = changes }) before after answer → HasCleared g before.following clear after old (end_by rows answer)
     by_answer (Ok true) it = record {
@@ -236,7 +251,7 @@ module _ {S : Type 0} (g : Ghosts S) (settled : (h : Held S) (db : Trees) → Is
         | inl one ↦ (
           is,
           record { entries = are.entries; lists = are.lists; counted = so_many ∙ ap length are.changes_are ∙ as_many clear.schema clear.table are.entries },
-          subst (λ (c : Content). IsCleared clear old c) (sym one.4.1) (left_so one.0 one.2),
+          subst (λ (c : Content). IsClearedBy before.following clear old c) (sym one.4.1) (left_so one.0 one.2),
         )
         | inr known ↦ not_known known.0
       ];
@@ -246,8 +261,8 @@ module _ {S : Type 0} (g : Ghosts S) (settled : (h : Held S) (db : Trees) → Is
       | inl one ↦ absurd (omega (arith, one.3))
       | inr known ↦ not_known known.0
     ]
-    by_answer (Err (Refused (NoSuchRow at))) it = absurd (none_refused before.following clear.schema clear.table is.to_be.followed old.rows are.entries at why.NoSuchRow are.lists (subst (λ cs. IsRefusedAt before.following cs old.rows at why.NoSuchRow) are.changes_are it.0.1))
-    by_answer (Err (Refused (CountFull at))) it = absurd (none_refused before.following clear.schema clear.table is.to_be.followed old.rows are.entries at why.CountFull are.lists (subst (λ cs. IsRefusedAt before.following cs old.rows at why.CountFull) are.changes_are it.0.1))
+    by_answer (Err (Refused (NoSuchRow at))) it = not_refused before.following clear old changes are at why.NoSuchRow it.0.1
+    by_answer (Err (Refused (CountFull at))) it = not_refused before.following clear old changes are at why.CountFull it.0.1
     by_answer (Err (Database (fault.Database e))) it = record {
       new = old;
       clears = (is, refl);

@@ -16,14 +16,26 @@ use Rattle.store.specs.Store.{Holds, Keeps}
 use Rattle.replica.specs.declared.change.loading.LoadEnd.{LoadEnd}
 use Rattle.replica.specs.declared.change.loading.LoadEnd.TheVariants.{Changed, HadEnded, Refused}
 use Rattle.replica.specs.declared.change.loading.Unloadable.{Unloadable}
+use Rattle.replica.specs.declared.change.loading.Unloadable.TheVariants.{GivenUp, Unfinished, OtherSet, LeftOut, NotFirst, HasRows, Failed}
 use Rattle.replica.specs.Marks.{ended_number, is_unfinished}
 use Rattle.gather.specs.Given.{empty_of, then_last, unless_last}
-use Rattle.replica.specs.Copies.{Copy, MayNotLoad, end_of_copy, was_begun, with_marks}
+use Rattle.replica.specs.Copies.{Copy, IsNotGivenUp, IsAtSet, IsNotHad, MayNotLoad, end_of_copy, was_begun, with_marks}
 use Rattle.replica.specs.Loading.{JudgesCopy, HasLoaded, IsLedByLoad}
 use Rattle.replica.specs.LoadFile.{LoadsTo, IsNotedOfLoad}
 use Rattle.replica.proofs.CaptureFiles.{clean_before_closing, noted_of_files}
 use Rattle.replica.proofs.ContentStays.{keeps_stayed}
 use Rattle.replica.proofs.ChangeFiles.{changed_into}
+
+-- the tables may not be copied
+pub not_had : (names : Names) (content : Content) (ids : Ids) (first : Id) (tables : Names) (why : Unloadable) → IsNotGivenUp content.executed first false → was_begun content.executed ids first ≡ false → IsAtSet content.executed ids
+    → IsNotHad names content.executed tables why → MayNotLoad names content ids first tables why
+not_had names content ids first tables (LeftOut name) kept begun at it = (kept, (begun, (at, it)))
+not_had names content ids first tables (NotFirst name) kept begun at it = (kept, (begun, (at, it)))
+not_had names content ids first tables (Failed fault) kept begun at it = (kept, (begun, it))
+not_had names content ids first tables GivenUp kept begun at it = absurd it
+not_had names content ids first tables OtherSet kept begun at it = absurd it
+not_had names content ids first tables (Unfinished source) kept begun at it = absurd it
+not_had names content ids first tables (HasRows name) kept begun at it = absurd it
 
 -- whether a mark of the copy is executed, by the store's set
 pub marked_by : (content : Content) (number_is : ℕ) (mark : Gtid) {executed : Ids} {said says : Bool} {source : List ℕ} → executed ≡ content.executed → said ≡ set.contains executed (id mark) → mark.source ≡ source → mark.number ≡ number_is → said ≡ says

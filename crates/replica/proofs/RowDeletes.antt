@@ -1,6 +1,6 @@
 -- Deletes of all rows of a table, over the list of the rows.
-use Rattle.replica.proofs.Names.{◌≡◌, ◌≢◌, ◌⊎◌, inl, inr, ℕ, zero, suc, ◌+◌, ◌≤◌, arith, Bool, true, false, List, [], ◌∷◌, ◌++◌, length, Option, Some, refl, sym, ap, ap₂, subst, ◌∙◌, replicate, if◌then◌else◌, AllByRecursion, cases_Bool, length-append, bytes_eq-Decides, CellValue, Names, admits, ChangeValue, TableRow, row_of, Bag, most, IsRemoved, IsRefused, AreDone, IsRefusedAt, Entry}
-use Rattle.std.specs.Prelude.{flat_map}
+use Rattle.replica.proofs.Names.{◌≡◌, ◌≢◌, ◌⊎◌, inl, inr, ℕ, zero, suc, ◌+◌, ◌≤◌, arith, Bool, true, false, List, [], ◌∷◌, ◌++◌, length, Option, Some, refl, sym, ap, ap₂, subst, ◌∙◌, replicate, if◌then◌else◌, AllByRecursion, cases_Bool, false≢true, length-append, bytes_eq-Decides, MatchBool, CellValue, Names, admits, ChangeValue, TableRow, row_of, Bag, most, IsMade, IsRemoved, IsRefused, is_admitted, AreDone, IsRefusedAt, Entry}
+use Rattle.std.specs.Prelude.{flat_map, slice_get}
 use Rattle.std.specs.Option.{unwrap_or}
 use Rattle.std.specs.List.Sorted.{IsStrictlySortedBy}
 use Rattle.std.specs.declared.cmp.Ordering.TheVariants.{Less, Equal}
@@ -193,6 +193,55 @@ module _ (names : Names) (schema table : List ℕ) (followed : admits names sche
 
   pub none_refused : (bag : Bag) (es : List Entry) (at : ℕ) (why : Refusal) → ListsBag bag es → IsRefusedAt names (flat_map (deletes_of schema table) es) bag at why → ⊥
   none_refused bag es at why lists it = none_refused_of es bag at why lists.ascend (are_there bag es lists.counted) it
+
+-- ---- Deletes of a table whose rows are not kept.
+
+module _ (names : Names) (schema table : List ℕ) (left_out : admits names schema table ≡ false) where
+  copies_skipped : (n : ℕ) (cells : List CellValue) (old new : Bag) → AreDone names (replicate n (delete schema table cells)) old new → new ≡ old
+  copies_skipped zero cells old new done = done
+  copies_skipped (suc n) cells old new done =
+      let first : done.0 ≡ old = subst (λ (b : Bool). MatchBool b (IsMade (delete schema table cells) old done.0) (done.0 ≡ old)) left_out done.1 in
+      copies_skipped n cells done.0 new done.2 ∙ first
+
+  entry_skipped : (e : Entry) (old new : Bag) → AreDone names (deletes_of schema table e) old new → new ≡ old
+  entry_skipped e old new done = elim (cases_Bool (is_in_table schema table e.0)) [
+    | inl here ↦ copies_skipped e.1 e.0.cells old new (subst (λ (b : Bool). AreDone names (if b then replicate e.1 (delete schema table e.0.cells) else []) old new) here done)
+    | inr apart ↦ subst (λ (b : Bool). AreDone names (if b then replicate e.1 (delete schema table e.0.cells) else []) old new) apart done
+  ]
+
+  pub all_skipped : (es : List Entry) (old new : Bag) → AreDone names (flat_map (deletes_of schema table) es) old new → new ≡ old
+  all_skipped [] old new done = done
+  all_skipped (e ∷ es) old new done =
+      let parts = done_parts names (deletes_of schema table e) (flat_map (deletes_of schema table) es) old new done in
+      all_skipped es parts.0 new parts.2 ∙ entry_skipped e old parts.0 parts.1
+
+  abbrev AreLeftOut : List ChangeValue → Type 0
+  AreLeftOut changes = AllByRecursion (λ (c : ChangeValue). is_admitted names c ≡ false) changes
+
+  copies_left_out : (n : ℕ) (cells : List CellValue) → AreLeftOut (replicate n (delete schema table cells))
+  copies_left_out zero cells = tt
+  copies_left_out (suc n) cells = (left_out, copies_left_out n cells)
+
+  both_left_out : (xs ys : List ChangeValue) → AreLeftOut xs → AreLeftOut ys → AreLeftOut (xs ++ ys)
+  both_left_out [] ys first second = second
+  both_left_out (x ∷ xs) ys first second = (first.0, both_left_out xs ys first.1 second)
+
+  entry_left_out : (e : Entry) (b : Bool) → AreLeftOut (if b then replicate e.1 (delete schema table e.0.cells) else [])
+  entry_left_out e true = copies_left_out e.1 e.0.cells
+  entry_left_out e false = tt
+
+  all_left_out : (es : List Entry) → AreLeftOut (flat_map (deletes_of schema table) es)
+  all_left_out [] = tt
+  all_left_out (e ∷ es) = both_left_out (deletes_of schema table e) (flat_map (deletes_of schema table) es) (entry_left_out e (is_in_table schema table e.0)) (all_left_out es)
+
+  left_out_at : (changes : List ChangeValue) (at : ℕ) (change : ChangeValue) → AreLeftOut changes → slice_get changes at ≡ Some change → is_admitted names change ≡ false
+  left_out_at [] at change all there = absurd (omega (arith, slice_get_within [] at change there))
+  left_out_at (c ∷ changes) zero change all there = subst (λ (x : ChangeValue). is_admitted names x ≡ false) (some_injective there) all.0
+  left_out_at (c ∷ changes) (suc at) change all there = left_out_at changes at change all.1 there
+
+  pub none_of_them_refused : (bag : Bag) (es : List Entry) (at : ℕ) (why : Refusal) → IsRefusedAt names (flat_map (deletes_of schema table) es) bag at why → ⊥
+  none_of_them_refused bag es at why it =
+      absurd (false≢true (sym (left_out_at (flat_map (deletes_of schema table) es) at it.change (all_left_out es) it.there) ∙ it.admitted))
 
 -- ---- How many they are.
 

@@ -5,7 +5,7 @@ use Rattle.std.specs.FinSet as set
 use Rattle.gtid.specs.Identifier.{Ids}
 use Rattle.gtid.specs.declared.identifier.Gtid.{Gtid}
 use Rattle.binlog.specs.Cell.{CellValue}
-use Rattle.binlog.specs.Filter.{Names, admits}
+use Rattle.binlog.specs.Filter.{Names, admits, is_read}
 use Rattle.store.specs.State.{TableRow, row_of, Bag, Content}
 use Rattle.store.specs.Listing.{Entry, ListsBag}
 use Rattle.store.specs.Faults.{IsFailure}
@@ -35,6 +35,16 @@ pub record IsCleared (clear : TableClear) (old new : Content) : Type 0 where
   pub gone : (cells : List CellValue) → new.rows (row_of clear.schema clear.table cells) ≡ 0
   pub others : (r : TableRow) → (r.schema ≢ clear.schema) ⊎ (r.table ≢ clear.table) → new.rows r ≡ old.rows r
 
+-- No row has changed, and the GTID is executed too.
+pub record IsRecorded (clear : TableClear) (old new : Content) : Type 0 where
+  pub executed : new.executed ≡ set.insert old.executed (clear.source, clear.number)
+  pub rows : new.rows ≡ old.rows
+
+-- The rows of the table are gone where they are kept. Where they are only read, there are none to be taken out.
+abbrev pub IsClearedWhere : Bool → TableClear → Content → Content → Type 0
+IsClearedWhere true clear old new = IsCleared clear old new
+IsClearedWhere false clear old new = IsRecorded clear old new
+
 -- whether a row is one of the table
 abbrev pub is_in_table : List ℕ → List ℕ → TableRow → Bool
 is_in_table schema table row = bytes_eq row.schema schema && bytes_eq row.table table
@@ -51,10 +61,14 @@ pub record HasTableRows (schema table : List ℕ) (bag : Bag) (count : ℕ) : Ty
   pub counted : count ≡ rows_in_table schema table entries
 
 module _ (names : Names) (clear : TableClear) where
-  -- The GTID is not executed, and the filter admits the table.
+  -- The GTID is not executed, and the table is read.
   pub record IsToBeCleared (old : Content) : Type 0 where
     pub fresh : set.contains old.executed (clear.source, clear.number) ≡ false
-    pub followed : admits names clear.schema clear.table ≡ true
+    pub followed : is_read names clear.schema clear.table ≡ true
+
+  -- The rows of the table are gone, if the filter admits it.
+  abbrev pub IsClearedBy : Content → Content → Type 0
+  IsClearedBy old new = IsClearedWhere (admits names clear.schema clear.table) clear old new
 
   -- Besides, just the set before it is executed: no transaction of the source that changed the table before comes later.
   pub record IsClearedAt (old : Content) : Type 0 where
@@ -62,12 +76,12 @@ module _ (names : Names) (clear : TableClear) where
     pub just : HasJust old.executed clear.at
 
   -- The new content, by how it has ended: the old one without the rows of the table, of which there were so many; or the old one,
-  -- since the GTID was executed, the filter leaves the table out, another set is executed than the one before it, the rows could not be
+  -- since the GTID was executed, the table is not read, another set is executed than the one before it, the rows could not be
   -- listed, or the transaction was not applied. It is not refused.
   abbrev pub ClearsTo : Content → ClearEnd → Content → Type 0
-  ClearsTo old (Cleared rows) new = IsClearedAt old × HasTableRows clear.schema clear.table old.rows rows × IsCleared clear old new
+  ClearsTo old (Cleared rows) new = IsClearedAt old × HasTableRows clear.schema clear.table old.rows rows × IsClearedBy old new
   ClearsTo old Repeat new = (set.contains old.executed (clear.source, clear.number) ≡ true) × (new ≡ old)
-  ClearsTo old NotFollowed new = (set.contains old.executed (clear.source, clear.number) ≡ false) × (admits names clear.schema clear.table ≡ false) × (new ≡ old)
+  ClearsTo old NotFollowed new = (set.contains old.executed (clear.source, clear.number) ≡ false) × (is_read names clear.schema clear.table ≡ false) × (new ≡ old)
   ClearsTo old OtherSet new = IsToBeCleared old × (¬ HasJust old.executed clear.at) × (new ≡ old)
   ClearsTo old (Failed cause) new = IsToBeCleared old × IsFailure cause × (new ≡ old)
   ClearsTo old (Stopped (Database (fault.Database e))) new = IsClearedAt old × (new ≡ old)
@@ -77,7 +91,7 @@ module _ (names : Names) (clear : TableClear) where
 
   -- The database failed in the transaction, and what is left has no rows of the table.
   abbrev pub IsClearedLeft : Content → ClearEnd → Content → Type 0
-  IsClearedLeft old (Stopped (Database (fault.Database e))) left = IsCleared clear old left
+  IsClearedLeft old (Stopped (Database (fault.Database e))) left = IsClearedBy old left
   IsClearedLeft old _ left = ⊥
 
   -- What a crash leaves: the new content, or the old one without the rows of the table if the database failed.

@@ -116,7 +116,7 @@ impl Observer for SkipWatch<'_> {
         let Some(skipping) = &mut self.skipping else {
             return;
         };
-        if let Err(error) = skipping.end(self.alloc, is_recorded) {
+        if let Err(error) = skipping.end(is_recorded) {
             self.stop = Some(SkipStop::Feed(error));
         }
     }

@@ -72,6 +72,8 @@ pub struct Source<'a> {
     pub changes: &'a str,
     /// Whether it is a first copy of tables, which alone may go on where one has begun and not ended.
     pub is_copy: bool,
+    /// The table that is to lose all of its rows, where the command is for that.
+    pub empties: Option<(&'a [u8], &'a [u8])>,
     /// Whether the database keeps no rows.
     pub feed_only: bool,
     /// Whether the file of changes may have nothing where such a database has executed something.
@@ -199,13 +201,25 @@ impl<'a, O: Write, E: Write> Watch<'a, O, E> {
 
     /// Whether the feed would begin in a new file, which was not asked for, after transactions whose changes another one has.
     fn would_begin_anew(&self, executed: &GtidSet) -> bool {
-        if self.source.new_feed || executed.is_subset(&GtidSet::new(self.source.rt.alloc())) {
+        // A copy adds its set before it reports the first one.
+        if self.source.new_feed || self.source.is_copy {
+            return false;
+        }
+        if executed.is_subset(&GtidSet::new(self.source.rt.alloc())) {
             return false;
         }
         match &self.feed {
             Some(feed) => feed.is_empty(),
             None => false,
         }
+    }
+
+    /// The table of which the database has no rows, and whoever reads the feed is to have none from now on.
+    fn emptied(&self) -> Option<(&'a [u8], &'a [u8])> {
+        if self.source.feed_only {
+            return self.source.empties;
+        }
+        None
     }
 
     /// Takes the executed set at the start, which the feed has from here on where no source has to be reached.
@@ -424,7 +438,14 @@ impl<'a, O: Write, E: Write> Observer for Watch<'a, O, E> {
     }
 
     fn before_apply(&mut self, delivery: &Delivery) -> bool {
-        self.put(FeedEntry::Changes(delivery));
+        match self.emptied() {
+            Some((schema, table)) => self.put(FeedEntry::Emptied {
+                gtid: delivery.gtid,
+                schema,
+                table,
+            }),
+            None => self.put(FeedEntry::Changes(delivery)),
+        }
         self.stop.is_none()
     }
 
@@ -438,7 +459,11 @@ impl<'a, O: Write, E: Write> Observer for Watch<'a, O, E> {
                     let committed_at = self.stamps.committed_at();
                     self.pulse
                         .applied(self.source.rt, delivery.gtid, committed_at);
-                    self.put(FeedEntry::Committed(delivery));
+                    let lines = match self.emptied() {
+                        Some(_) => 1,
+                        None => delivery.changes.len(),
+                    };
+                    self.put(FeedEntry::Committed(delivery.gtid, lines));
                 }
             }
             Err(reason) => {

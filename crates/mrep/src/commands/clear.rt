@@ -74,11 +74,7 @@ pub fn clear_reported<W: Write, E: Write>(
     err: &mut E,
 ) -> Result<Option<u64>, Failure> {
     let (pulse, reports) = wanted.reports(rt, None, &[], err)?;
-    let source = if what.is_copy {
-        wanted.copy_source(rt)
-    } else {
-        wanted.source(rt, &[], 0)
-    };
+    let source = wanted.clear_source(rt, what.is_copy, (what.schema, what.name));
     let mut watch = Watch::new(source, &pulse, reports, out, err);
     let done = clear_in(rt, wanted.db, what, &mut watch);
     let (done, watch) = wanted.unless_failed(done, watch)?;

@@ -9,6 +9,7 @@ use crate::report::failure::{
     DONE, Failure, MEMORY, of_copy, of_database, of_unloadable, unusable, write_failure,
 };
 use crate::report::wanted::Wanted;
+use binlog::Follow;
 use clap::ArgMatches;
 use first_copy::{RowsFault, Summary};
 use formats::Shown;
@@ -80,10 +81,20 @@ fn load_rows<W: Write, E: Write>(
     out: &mut W,
     err: &mut E,
 ) -> Result<(), Failure> {
+    let kept = wanted.kept_for_copy(rt)?;
+    let only = wanted.only_for(rt.alloc(), kept)?;
     let (pulse, reports) = wanted.reports(rt, Some(size), &[file.name], err)?;
+    let reports = wanted.unless_anew(rt, kept, reports)?;
     let rows = file.rows(rt, summary, &pulse)?;
     let mut watch = Watch::new(wanted.copy_source(rt), &pulse, reports, out, err);
-    let done = load_into(rt, wanted.db, summary.copy(), rows, &mut watch);
+    let done = load_into(
+        rt,
+        wanted.db,
+        only.as_ref(),
+        summary.copy(),
+        rows,
+        &mut watch,
+    );
     let (done, watch) = wanted.unless_failed(done, watch)?;
     let stopped = wanted.stopped(rt.alloc(), watch.stop());
     report_end(rt, &pulse, size, done.applied, err);
@@ -119,16 +130,17 @@ fn concluded<E: Write>(
     }
 }
 
-/// Loads a copy into the database in a file, which is opened with its own filter.
+/// Loads a copy into the database in a file.
 fn load_into<I: Deliveries + Drop, W: Observer>(
     rt: &HostRuntime,
     db: &str,
+    only: Option<&Follow>,
     copy: FirstCopy<'_>,
     rows: I,
     observer: &mut W,
 ) -> Result<LoadedFile<I::Error, File>, Failure> {
     let opening = opening(rt, db)?;
-    let done = load_file(rt, db, Unknown, None, copy, rows, observer);
+    let done = load_file(rt, db, Unknown, only, copy, rows, observer);
     opened(rt, db, opening, done)
 }
 

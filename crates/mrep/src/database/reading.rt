@@ -46,8 +46,8 @@ pub fn list_in<L: Lister>(
 pub enum Kept {
     /// Rows.
     Rows,
-    /// None, since it was made so.
-    None,
+    /// None, since it was made so, and whether it has executed anything.
+    None { has_executed: bool },
     /// Nothing is known: it is new, or cannot be opened.
     Unknown,
 }
@@ -75,12 +75,11 @@ impl Lister for Kept {
     ghost begun = { λ _ _ _ _ _. Unit {0} };
 
     fn begin(&mut self, executed: &GtidSet, following: &Follow) -> Result<bool, Infallible> {
+        let has_executed = executed.spans().next().is_some();
         *self = match following.keeps_rows() {
-            false => Kept::None,
+            false => Kept::None { has_executed },
             // One that has nothing yet may be a new one.
-            true if following.names().is_empty() && executed.spans().next().is_none() => {
-                Kept::Unknown
-            }
+            true if following.names().is_empty() && !has_executed => Kept::Unknown,
             true => Kept::Rows,
         };
         Ok(false)

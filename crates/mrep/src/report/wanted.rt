@@ -97,16 +97,63 @@ impl<'g, 'a> Wanted<'g, 'a> {
     /// The filter of the database: of the tables that are named, or, where no rows are kept, of all for a new one. None is that
     /// of the database.
     pub fn only(&self, rt: &HostRuntime) -> Result<Option<Follow>, Failure> {
-        let alloc = rt.alloc();
+        let kept = if self.feed_only {
+            kept_in(rt, self.db)
+        } else {
+            Kept::Unknown
+        };
+        self.only_for(rt.alloc(), kept)
+    }
+
+    /// The same, of a database that keeps this.
+    pub fn only_for(&self, alloc: Global, kept: Kept) -> Result<Option<Follow>, Failure> {
         let named = self.filter(alloc)?;
         if !self.feed_only {
             return Ok(named);
         }
-        match (kept_in(rt, self.db), named) {
+        match (kept, named) {
             (Kept::Rows, _) => Err(unusable(alloc, self.db, KEEPS_ROWS)),
-            (Kept::None, None) => Ok(None),
+            (Kept::None { .. }, None) => Ok(None),
             (_, Some(named)) => not_kept(alloc, named.names()),
             (_, None) => not_kept(alloc, &[]),
+        }
+    }
+
+    /// What the database keeps into which a first copy is loaded, if it is what is asked for. The set of a copy is executed before
+    /// anything is reported, so an observer would refuse it too late.
+    pub fn kept_for_copy(&self, rt: &HostRuntime) -> Result<Kept, Failure> {
+        match kept_in(rt, self.db) {
+            Kept::None { .. } if !self.feed_only => {
+                Err(unusable(rt.alloc(), self.db, KEEPS_NONE))
+            }
+            kept => Ok(kept),
+        }
+    }
+
+    /// What is reported of a first copy that is loaded into a database that keeps this: its feed may not begin in a new file, which
+    /// was not asked for, where rows are not kept and something is executed.
+    pub fn unless_anew(
+        &self,
+        rt: &HostRuntime,
+        kept: Kept,
+        reports: Reports,
+    ) -> Result<Reports, Failure> {
+        let Reports {
+            feed,
+            tables,
+            chosen,
+        } = reports;
+        let is_known = self.new_feed || kept != Kept::None { has_executed: true };
+        match feed {
+            Some(feed) if !is_known && feed.is_empty() => {
+                feed.discard(rt, self.feed_name());
+                Err(unusable(rt.alloc(), self.feed_name(), NEW_FEED))
+            }
+            feed => Ok(Reports {
+                feed,
+                tables,
+                chosen,
+            }),
         }
     }
 
@@ -141,6 +188,7 @@ impl<'g, 'a> Wanted<'g, 'a> {
             db: self.db,
             changes: self.feed_name(),
             is_copy: false,
+            empties: None,
             feed_only: self.feed_only,
             new_feed: self.new_feed,
         }
@@ -158,8 +206,32 @@ impl<'g, 'a> Wanted<'g, 'a> {
             db: self.db,
             changes: self.feed_name(),
             is_copy: true,
-            feed_only: false,
-            new_feed: false,
+            empties: None,
+            feed_only: self.feed_only,
+            new_feed: self.new_feed,
+        }
+    }
+
+    /// A table that is to lose all of its rows, which may be those of a first copy, as it is wanted.
+    pub fn clear_source<'s>(
+        &self,
+        rt: &'s HostRuntime,
+        is_copy: bool,
+        table: (&'s [u8], &'s [u8]),
+    ) -> Source<'s>
+    where
+        'a: 's,
+    {
+        Source {
+            rt,
+            streams: &[],
+            port: 0,
+            db: self.db,
+            changes: self.feed_name(),
+            is_copy,
+            empties: Some(table),
+            feed_only: self.feed_only,
+            new_feed: self.new_feed,
         }
     }
 

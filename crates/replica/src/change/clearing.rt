@@ -27,11 +27,12 @@ use store::{ListError, Listed, Store, StoreFault, Visitor};
 /// How taking the rows of a table out has ended.
 #[derive(Debug, Drop)]
 pub enum ClearEnd {
-    /// They were taken out, so many with their copies, and the GTID is executed.
+    /// They were taken out, so many with their copies, and the GTID is executed. Of a table that is read and not kept there
+    /// are none.
     Cleared(u64),
     /// Nothing has changed: the GTID was executed.
     Repeat,
-    /// Nothing has changed: the filter leaves the table out, so that there are no rows of it.
+    /// Nothing has changed: the table is not read, so that there are no rows of it.
     NotFollowed,
     /// Nothing has changed: the executed set is not the one before the GTID, and besides it copies alone.
     OtherSet,
@@ -154,7 +155,7 @@ fn end_of_clear(rows: u64, answer: Result<bool, Reason>) -> ClearEnd
 }
 
 /// Reports the store as opened, and takes the rows of a table out in a transaction with this GTID, a delete for each copy
-/// of each row; unless the GTID is executed, or the table is not followed.
+/// of each row; unless the GTID is executed, or the table is not read. Of a table that is read and not kept there are none.
 pub(crate) fn clear<S: Alter, W: Observer>(
     alloc: Global,
     store: &mut Store<S>,
@@ -182,7 +183,7 @@ pub(crate) fn clear<S: Alter, W: Observer>(
     if store.executed().contains(gtid) {
         return ClearEnd::Repeat;
     }
-    if !store.following().follows(schema, table) {
+    if !store.following().reads(schema, table) {
         return ClearEnd::NotFollowed;
     }
     match has_just(store.executed(), at) {

@@ -5,11 +5,10 @@ ghost use Rattle.std.specs.FinSet as set;
 ghost use Rattle.std.specs.List.{list_all};
 ghost use Rattle.sqlite.specs.State.{HasCleanDisk};
 ghost use Rattle.gtid.specs.Identifier.{id};
-ghost use Rattle.binlog.specs.Filter.{admits};
 ghost use Rattle.store.specs.State.{Content};
 ghost use Rattle.store.specs.Store.{AreOf, Holds, database, names_of};
 ghost use Rattle.replica.specs.Marks.{is_of_copy};
-ghost use Rattle.replica.specs.Copies.{AreOfCopies, HasJust, IsAtSet, IsNotGivenUp, AreAdmitted, was_begun, with_marks, loaded_by};
+ghost use Rattle.replica.specs.Copies.{AreOfCopies, HasJust, IsAtSet, IsNotGivenUp, AreHad, MayBeCopied, IsNotHad, is_had, was_begun, with_marks, loaded_by};
 ghost use Rattle.replica.specs.Loading.{IsLookedAt, JudgesCopy, HasLoaded, IsLedByLoad};
 ghost use Rattle.replica.specs.LoadFile.{MayStopLoad, UnlessLoaded};
 ghost use Rattle.replica.specs.Keeps.{KeepsStore};
@@ -44,6 +43,9 @@ pub enum Unloadable {
     OtherSet,
     /// The database was made for other tables than this one.
     LeftOut(QualifiedName),
+    /// The rows of this table are reported and not kept, and the database has executed something, so that nothing says whether
+    /// the table was copied before.
+    NotFirst(QualifiedName),
     /// This table has rows.
     HasRows(QualifiedName),
     /// That could not be found out: the database failed, or memory ran out.
@@ -136,19 +138,59 @@ fn is_one_of(tables: &Follow, schema: &[u8], table: &[u8]) -> bool
     tables.follows(schema, table)
 }
 
-/// The first of the tables that a filter leaves out, if there is one.
-fn first_left_out<'a>(following: &Follow, tables: &'a Follow) -> Option<&'a (Vec<u8>, Vec<u8>)>
+/// Whether rows of a table are kept, or, if that is not asked, whether it is read.
+fn is_had(following: &Follow, kept: bool, schema: &[u8], table: &[u8]) -> bool
+    ensures { result ≡ is_had kept following.now schema.now table.now }
+{
+    if kept {
+        return following.follows(schema, table);
+    }
+    following.reads(schema, table)
+}
+
+/// The first of the tables whose rows are not kept, or, if that is not asked, which is not read, if there is one.
+fn first_left_out<'a>(
+    following: &Follow,
+    kept: bool,
+    tables: &'a Follow,
+) -> Option<&'a (Vec<u8>, Vec<u8>)>
     ensures some { IfSome result (λ name. (set.contains tables.now
         (name.now.0.items, name.now.1.items) ≡ true)
-        × (admits following.now name.now.0.items name.now.1.items ≡ false)) }
-    ensures none { IfNone result (AreAdmitted following.now tables.now) }
+        × (is_had kept following.now name.now.0.items name.now.1.items ≡ false)) }
+    ensures none { IfNone result (AreHad kept following.now tables.now) }
 {
     for name in tables.names() {
-        if !following.follows(&name.0, &name.1) {
+        if !is_had(following, kept, &name.0, &name.1) {
             return Some(name);
         }
     }
     None
+}
+
+/// Why tables may not be copied into a database that reads these and has executed so much, if they may not be.
+fn why_not_had(
+    alloc: Global,
+    following: &Follow,
+    executed: &GtidSet,
+    tables: &Follow,
+) -> Option<Unloadable>
+    ensures some { IfSome result (λ why. IsNotHad following.now executed.now tables.now why) }
+    ensures none { IfNone result (MayBeCopied following.now executed.now tables.now) }
+{
+    if let Some(name) = first_left_out(following, false, tables) {
+        return match name_of(alloc, &name.0, &name.1) {
+            Ok(name) => Some(Unloadable::LeftOut(name)),
+            Err(_) => Some(Unloadable::Failed(StoreFault::Memory)),
+        };
+    }
+    if executed.is_subset(&GtidSet::new(alloc)) {
+        return None;
+    }
+    let name = first_left_out(following, true, tables)?;
+    match name_of(alloc, &name.0, &name.1) {
+        Ok(name) => Some(Unloadable::NotFirst(name)),
+        Err(_) => Some(Unloadable::Failed(StoreFault::Memory)),
+    }
 }
 
 /// A copy of the name of a table.
@@ -227,11 +269,8 @@ fn may_load<S: Alter>(
         Ok(false) => return Err(Unloadable::OtherSet),
         Err(_) => return Err(Unloadable::Failed(StoreFault::Memory)),
     }
-    if let Some(name) = first_left_out(store.following(), tables) {
-        return match name_of(alloc, &name.0, &name.1) {
-            Ok(name) => Err(Unloadable::LeftOut(name)),
-            Err(_) => Err(Unloadable::Failed(StoreFault::Memory)),
-        };
+    if let Some(why) = why_not_had(alloc, store.following(), store.executed(), tables) {
+        return Err(why);
     }
     match store.list(&mut NoRows { alloc, tables }) {
         Ok(()) => Ok(()),

@@ -3,7 +3,7 @@ use Rattle.store.specs.Store.{Holds}
 use Rattle.store.specs.declared.fault.StoreFault.TheVariants as fault
 use Rattle.replica.specs.Copies.{HasJust}
 use Rattle.replica.specs.Clear.{clear_of}
-use Rattle.replica.proofs.ClearStore.{contains_by, admits_by, opened_noted, led_opened, led_applied, stays_whole, repeats, not_followed, other_set, not_listed, ends_by}
+use Rattle.replica.proofs.ClearStore.{contains_by, reads_by, opened_noted, led_opened, led_applied, stays_whole, repeats, not_followed, other_set, not_listed, ends_by}
 use Rattle.replica.proofs.Notices.{excludes_by}
 use Rattle.replica.proofs.Keeps.{store_then}
 use Rattle.replica.proofs.change.clearing.clear.Goals as goal
@@ -18,14 +18,14 @@ returns-then-contains-clause-notes g c clean old holds =
     led_opened g.S.Store c.args.store.now.following old c.args.store.now (g.W.Observer.account c.args.observer.now) (g.W.Observer.account c.opened.new.self) (stays_whole g.S.Store (λ h db is_open may. g.met.S.Store.settled h.store db is_open may) c.args.store.now old (λ left. left ≡ old) refl holds)
     (opened_noted c.args.store.now.following old c.executed.result.now (g.W.Observer.account c.args.observer.now) (g.W.Observer.account c.opened.new.self) (c.executed.ensures.value false old holds) c.opened.ensures.noticed (excludes_by (g.W.Observer.account c.args.observer.now) (g.W.Observer.account c.opened.new.self) c.executed.result.now c.following.ensures c.opened.ensures.excludes))
 
-pub returns-then-not-follows-clause-clears : goal.returns-then-not-follows-clause-clears
-returns-then-not-follows-clause-clears g c clean old holds =
+pub returns-then-not-reads-clause-clears : goal.returns-then-not-reads-clause-clears
+returns-then-not-reads-clause-clears g c clean old holds =
     not_followed g.S.Store (λ h db is_open may. g.met.S.Store.settled h.store db is_open may) c.args.store.now.following (clear_of c.args.schema.now c.args.table.now c.args.gtid c.args.at.now) c.args.store.now old
     (contains_by old.executed c.executed-2.result.now c.args.gtid.source c.args.gtid.number c.contains.result _ (c.executed-2.ensures.value false old holds) c.contains.ensures c.if-contains.false)
-    (admits_by c.args.store.now.following c.following-2.result.now c.args.schema.now c.args.table.now c.follows.result _ c.following-2.ensures c.follows.ensures c.if-not-follows.true) holds
+    (reads_by c.args.store.now.following c.following-2.result.now c.args.schema.now c.args.table.now c.reads.result _ c.following-2.ensures c.reads.ensures c.if-not-reads.true) holds
 
-pub returns-then-not-follows-clause-notes : goal.returns-then-not-follows-clause-notes
-returns-then-not-follows-clause-notes g c clean old holds =
+pub returns-then-not-reads-clause-notes : goal.returns-then-not-reads-clause-notes
+returns-then-not-reads-clause-notes g c clean old holds =
     led_opened g.S.Store c.args.store.now.following old c.args.store.now (g.W.Observer.account c.args.observer.now) (g.W.Observer.account c.opened.new.self) (stays_whole g.S.Store (λ h db is_open may. g.met.S.Store.settled h.store db is_open may) c.args.store.now old (λ left. left ≡ old) refl holds)
     (opened_noted c.args.store.now.following old c.executed.result.now (g.W.Observer.account c.args.observer.now) (g.W.Observer.account c.opened.new.self) (c.executed.ensures.value false old holds) c.opened.ensures.noticed (excludes_by (g.W.Observer.account c.args.observer.now) (g.W.Observer.account c.opened.new.self) c.executed.result.now c.following.ensures c.opened.ensures.excludes))
 
@@ -34,7 +34,7 @@ returns-in-Err-list_deletes-clause-clears g c clean old holds =
     not_listed g.S.Store (λ h db is_open may. g.met.S.Store.settled h.store db is_open may) c.args.store.now.following (clear_of c.args.schema.now c.args.table.now c.args.gtid c.args.at.now) c.list_deletes.new.store old c.in-Err-list_deletes.fault
     (record {
       fresh = contains_by old.executed c.executed-2.result.now c.args.gtid.source c.args.gtid.number c.contains.result _ (c.executed-2.ensures.value false old holds) c.contains.ensures c.if-contains.false;
-      followed = admits_by c.args.store.now.following c.following-2.result.now c.args.schema.now c.args.table.now c.follows.result _ c.following-2.ensures c.follows.ensures c.if-not-follows.false;
+      followed = reads_by c.args.store.now.following c.following-2.result.now c.args.schema.now c.args.table.now c.reads.result _ c.following-2.ensures c.reads.ensures c.if-not-reads.false;
     })
     (c.in-Err-list_deletes.ensures.lists clean old holds)
 
@@ -51,7 +51,7 @@ returns-clause-clears g c clean old holds =
     (record {
       to_be = record {
         fresh = contains_by old.executed c.executed-2.result.now c.args.gtid.source c.args.gtid.number c.contains.result _ (c.executed-2.ensures.value false old holds) c.contains.ensures c.if-contains.false;
-        followed = admits_by c.args.store.now.following c.following-2.result.now c.args.schema.now c.args.table.now c.follows.result _ c.following-2.ensures c.follows.ensures c.if-not-follows.false;
+        followed = reads_by c.args.store.now.following c.following-2.result.now c.args.schema.now c.args.table.now c.reads.result _ c.following-2.ensures c.reads.ensures c.if-not-reads.false;
       };
       just = subst (λ ids. HasJust ids c.args.at.now) (c.executed-3.ensures.value false old holds) (c.in-Ok-true.ensures.0 c.in-Ok-true.field-0-test);
     })
@@ -67,8 +67,8 @@ returns-clause-notes g c clean old holds =
 pub returns-then-contains-clause-heeds : goal.returns-then-contains-clause-heeds
 returns-then-contains-clause-heeds g c clean old holds on = stays_whole g.S.Store (λ h db is_open may. g.met.S.Store.settled h.store db is_open may) c.args.store.now old (λ left. left ≡ old) refl holds
 
-pub returns-then-not-follows-clause-heeds : goal.returns-then-not-follows-clause-heeds
-returns-then-not-follows-clause-heeds g c clean old holds on = stays_whole g.S.Store (λ h db is_open may. g.met.S.Store.settled h.store db is_open may) c.args.store.now old (λ left. left ≡ old) refl holds
+pub returns-then-not-reads-clause-heeds : goal.returns-then-not-reads-clause-heeds
+returns-then-not-reads-clause-heeds g c clean old holds on = stays_whole g.S.Store (λ h db is_open may. g.met.S.Store.settled h.store db is_open may) c.args.store.now old (λ left. left ≡ old) refl holds
 
 pub returns-in-Err-list_deletes-clause-heeds : goal.returns-in-Err-list_deletes-clause-heeds
 returns-in-Err-list_deletes-clause-heeds g c clean old holds on = (c.in-Err-list_deletes.ensures.lists clean old holds).1
@@ -87,7 +87,7 @@ returns-in-Ok-false-clause-clears g c clean old holds =
     other_set g.S.Store (λ h db is_open may. g.met.S.Store.settled h.store db is_open may) c.args.store.now.following (clear_of c.args.schema.now c.args.table.now c.args.gtid c.args.at.now) c.args.store.now old
     (record {
       fresh = contains_by old.executed c.executed-2.result.now c.args.gtid.source c.args.gtid.number c.contains.result _ (c.executed-2.ensures.value false old holds) c.contains.ensures c.if-contains.false;
-      followed = admits_by c.args.store.now.following c.following-2.result.now c.args.schema.now c.args.table.now c.follows.result _ c.following-2.ensures c.follows.ensures c.if-not-follows.false;
+      followed = reads_by c.args.store.now.following c.following-2.result.now c.args.schema.now c.args.table.now c.reads.result _ c.following-2.ensures c.reads.ensures c.if-not-reads.false;
     })
     (subst (λ ids. HasJust ids c.args.at.now → ⊥) (c.executed-3.ensures.value false old holds) (c.in-Ok-false.ensures.1 c.in-Ok-false.field-0-test)) holds
 
@@ -101,7 +101,7 @@ returns-in-Err-clause-clears g c clean old holds =
     not_listed g.S.Store (λ h db is_open may. g.met.S.Store.settled h.store db is_open may) c.args.store.now.following (clear_of c.args.schema.now c.args.table.now c.args.gtid c.args.at.now) c.args.store.now old fault.Memory
     (record {
       fresh = contains_by old.executed c.executed-2.result.now c.args.gtid.source c.args.gtid.number c.contains.result _ (c.executed-2.ensures.value false old holds) c.contains.ensures c.if-contains.false;
-      followed = admits_by c.args.store.now.following c.following-2.result.now c.args.schema.now c.args.table.now c.follows.result _ c.following-2.ensures c.follows.ensures c.if-not-follows.false;
+      followed = reads_by c.args.store.now.following c.following-2.result.now c.args.schema.now c.args.table.now c.reads.result _ c.following-2.ensures c.reads.ensures c.if-not-reads.false;
     })
     (tt, stays_whole g.S.Store (λ h db is_open may. g.met.S.Store.settled h.store db is_open may) c.args.store.now old (λ left. left ≡ old) refl holds)
 

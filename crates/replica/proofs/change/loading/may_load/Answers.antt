@@ -1,12 +1,11 @@
-use Rattle.replica.proofs.Names.{◌∙◌, ℕ, List, inl, inr, false, sym, ap, ap₂, subst, Ids, Names, admits, id}
-use Rattle.std.specs.FinSet as set
+use Rattle.replica.proofs.Names.{◌∙◌, inl, inr, false, sym, ap, subst, subst₂, Ids, id}
 use Rattle.replica.specs.Marks.{is_unfinished, NoOtherUnfinished}
-use Rattle.replica.specs.Copies.{IsAtSet, AreAdmitted}
+use Rattle.replica.specs.Copies.{IsAtSet, MayBeCopied, IsNotHad}
 use Rattle.replica.specs.declared.change.loading.NoRows.{NoRows}
-use Rattle.replica.specs.declared.change.loading.Unloadable.TheVariants.{Unfinished, OtherSet, LeftOut, HasRows, Failed}
+use Rattle.replica.specs.declared.change.loading.Unloadable.TheVariants.{Unfinished, OtherSet, HasRows, Failed}
 use Rattle.store.specs.declared.fault.StoreFault.TheVariants as fault
 use Rattle.replica.proofs.Copies.{no_rows, found_row}
-use Rattle.replica.proofs.LoadFiles.{keeps_of, kept_after, held_after, may_not, begun_by, unfinished_by, differs}
+use Rattle.replica.proofs.LoadFiles.{keeps_of, kept_after, held_after, may_not, not_had, begun_by, unfinished_by, differs}
 use Rattle.replica.proofs.change.loading.may_load.Goals as goal
 
 pub returns-in-Some-clause-judges : goal.returns-in-Some-clause-judges
@@ -37,9 +36,9 @@ returns-in-Ok-false-clause-judges g c clean content holds kept =
     (keeps_of g.S.Store c.args.store.now content holds)
     (kept, (begun_by content c.args.gtids.now (id c.args.first) (c.executed-2.ensures.value false content holds) c.was_begun.ensures c.if-was_begun.false, subst (λ ids. IsAtSet ids c.args.gtids.now → ⊥) (c.executed-4.ensures.value false content holds) (c.in-Ok-false.ensures.1 c.in-Ok-false.field-0-test)))
 
-pub returns-in-Ok-list-clause-judges : goal.returns-in-Ok-list-clause-judges
-returns-in-Ok-list-clause-judges g c clean content holds kept =
-    let lists = c.in-Ok-list.ensures.lists clean content holds in (
+pub returns-in-Ok-clause-judges : goal.returns-in-Ok-clause-judges
+returns-in-Ok-clause-judges g c clean content holds kept =
+    let lists = c.in-Ok.ensures.lists clean content holds in (
       lists.1,
       record {
         kept = kept;
@@ -47,7 +46,7 @@ returns-in-Ok-list-clause-judges g c clean content holds kept =
         begun = inr (record {
           marked = ap (λ (ids : Ids). is_unfinished ids c.args.first.source) (sym (c.executed-3.ensures.value false content holds)) ∙ sym c.is_unfinished.ensures ∙ c.if-is_unfinished.false;
           at = subst (λ ids. IsAtSet ids c.args.gtids.now) (c.executed-4.ensures.value false content holds) (c.in-Ok-true.ensures.0 c.in-Ok-true.field-0-test);
-          admitted = subst (λ n. AreAdmitted n c.args.tables.now) c.following.ensures c.in_default-first_left_out.ensures.none;
+          had = subst₂ (λ n ids. MayBeCopied n ids c.args.tables.now) c.following.ensures (c.executed-5.ensures.value false content holds) c.in_default-why_not_had.ensures.none;
           empty = no_rows _ (λ (v : NoRows). v.tables.now) (λ v w e it. it) content _ _ lists.0;
         });
       },
@@ -69,7 +68,7 @@ returns-in-Err-Visitor-Row-clause-judges g c clean content holds kept =
         begun_by content c.args.gtids.now (id c.args.first) (c.executed-2.ensures.value false content holds) c.was_begun.ensures c.if-was_begun.false,
         (
           subst (λ ids. IsAtSet ids c.args.gtids.now) (c.executed-4.ensures.value false content holds) (c.in-Ok-true.ensures.0 c.in-Ok-true.field-0-test),
-          subst (λ n. AreAdmitted n c.args.tables.now) c.following.ensures c.in_default-first_left_out.ensures.none,
+          subst₂ (λ n ids. MayBeCopied n ids c.args.tables.now) c.following.ensures (c.executed-5.ensures.value false content holds) c.in_default-why_not_had.ensures.none,
           found.0,
           found.1,
         ),
@@ -87,23 +86,11 @@ returns-in-Err-clause-judges g c clean content holds kept =
     may_not g.S.Store c.args.store.now.following c.args.store.now content c.args.gtids.now (id c.args.first) c.args.tables.now (Failed fault.Memory)
     (keeps_of g.S.Store c.args.store.now content holds) (kept, (begun_by content c.args.gtids.now (id c.args.first) (c.executed-2.ensures.value false content holds) c.was_begun.ensures c.if-was_begun.false, tt))
 
-pub returns-in-Err-name_of-clause-judges : goal.returns-in-Err-name_of-clause-judges
-returns-in-Err-name_of-clause-judges g c clean content holds kept =
-    may_not g.S.Store c.args.store.now.following c.args.store.now content c.args.gtids.now (id c.args.first) c.args.tables.now (Failed fault.Memory)
-    (keeps_of g.S.Store c.args.store.now content holds) (kept, (begun_by content c.args.gtids.now (id c.args.first) (c.executed-2.ensures.value false content holds) c.was_begun.ensures c.if-was_begun.false, tt))
-
-pub returns-in-Ok-clause-judges : goal.returns-in-Ok-clause-judges
-returns-in-Ok-clause-judges g c clean content holds kept =
-    may_not g.S.Store c.args.store.now.following c.args.store.now content c.args.gtids.now (id c.args.first) c.args.tables.now (LeftOut c.in-Ok.name)
-    (keeps_of g.S.Store c.args.store.now content holds) (
-      kept,
-      (
-        begun_by content c.args.gtids.now (id c.args.first) (c.executed-2.ensures.value false content holds) c.was_begun.ensures c.if-was_begun.false,
-        (
-          subst (λ ids. IsAtSet ids c.args.gtids.now) (c.executed-4.ensures.value false content holds) (c.in-Ok-true.ensures.0 c.in-Ok-true.field-0-test),
-          ap₂ (λ (s t : List ℕ). set.contains c.args.tables.now (s, t)) (c.in-Ok.ensures.schema ∙ c.deref.ensures.value) (c.in-Ok.ensures.table ∙ c.deref-in-Some-first_left_out.ensures.value) ∙ c.in-Some-first_left_out.ensures.some.0,
-          ap₂ (λ (s t : List ℕ). admits c.args.store.now.following s t) (c.in-Ok.ensures.schema ∙ c.deref.ensures.value) (c.in-Ok.ensures.table ∙ c.deref-in-Some-first_left_out.ensures.value)
-              ∙ ap (λ (n : Names). admits n c.in-Some-first_left_out.name.now.0.items c.in-Some-first_left_out.name.now.1.items) (sym c.following.ensures) ∙ c.in-Some-first_left_out.ensures.some.1,
-        ),
-      ),
-    )
+pub returns-in-Some-why_not_had-clause-judges : goal.returns-in-Some-why_not_had-clause-judges
+returns-in-Some-why_not_had-clause-judges g c clean content holds kept =
+    may_not g.S.Store c.args.store.now.following c.args.store.now content c.args.gtids.now (id c.args.first) c.args.tables.now c.in-Some-why_not_had.why
+    (keeps_of g.S.Store c.args.store.now content holds)
+    (not_had c.args.store.now.following content c.args.gtids.now (id c.args.first) c.args.tables.now c.in-Some-why_not_had.why kept
+    (begun_by content c.args.gtids.now (id c.args.first) (c.executed-2.ensures.value false content holds) c.was_begun.ensures c.if-was_begun.false)
+    (subst (λ ids. IsAtSet ids c.args.gtids.now) (c.executed-4.ensures.value false content holds) (c.in-Ok-true.ensures.0 c.in-Ok-true.field-0-test))
+    (subst₂ (λ n ids. IsNotHad n ids c.args.tables.now c.in-Some-why_not_had.why) c.following.ensures (c.executed-5.ensures.value false content holds) c.in-Some-why_not_had.ensures.some))
