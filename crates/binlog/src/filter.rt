@@ -63,8 +63,8 @@ impl Follow {
         Ok(Follow { names })
     }
 
-    /// The names, each once and in ascending order by the bytes of the schema and then of the table. If all tables are
-    /// followed there are none.
+    /// The names, each once and in ascending order by the bytes of the schema and then of the table; none if all tables
+    /// are followed.
     ///
     /// Clauses: `ascend`, `set`: the above.
     pub fn names(&self) -> &[(Vec<u8>, Vec<u8>)]
@@ -84,7 +84,9 @@ impl Follow {
         are_among(&other.names, &self.names)
     }
 
-    /// Whether a table is followed. It takes no memory.
+    /// Whether a table is followed.
+    ///
+    /// It takes no memory.
     ///
     /// Clauses: the above.
     pub fn follows(&self, schema: &[u8], table: &[u8]) -> bool

@@ -75,7 +75,9 @@ impl Follow {
     }
 
     /// Whether the changes of a table are read: it is kept, or a name of the list means it as one that is read and not
-    /// kept (`is_read`). It takes no memory.
+    /// kept (`is_read`).
+    ///
+    /// It takes no memory.
     ///
     /// Clauses: the above.
     pub fn reads(&self, schema: &[u8], table: &[u8]) -> bool

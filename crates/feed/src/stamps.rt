@@ -26,7 +26,9 @@ pub struct Stamps {
 }
 
 impl Stamps {
-    /// Nothing is known. It takes no memory.
+    /// Nothing is known.
+    ///
+    /// It takes no memory.
     ///
     /// Clauses: `known`, `seconds`: the above.
     pub fn new(alloc: Global) -> Stamps

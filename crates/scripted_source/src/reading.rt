@@ -15,11 +15,12 @@ pub struct Reading {
     pub fault: Option<WireFault>,
 }
 
-/// The reading of a stream that comes in these pieces, from the id 0 on, up to its end or its fault.
+/// The reading of a stream that comes in these pieces, from the id 0 on, up to its end or its fault: its payloads, and
+/// after them its fault if there is one.
 ///
 /// Clauses:
-/// - `whole`, `sequence`, `too_large`, `only`, `err`: the stream's one reading, by the clauses of `wire` alone: its
-///   payloads, and after them its fault if there is one; the only error is `Memory`
+/// - `whole`, `sequence`, `too_large`, `only`, `err`: the stream's one reading, by the clauses of `wire` alone; the
+///   only error is `Memory`
 pub fn payloads(alloc: Global, limit: usize, pieces: &[&[u8]]) -> Result<Reading, WireFault>
     requires { limit ≤ largest_payload }
     ensures whole { IfOk result (λ read. IfNone read.fault ((id : ℕ) × (held : List ℕ)

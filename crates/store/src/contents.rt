@@ -23,8 +23,9 @@ impl<S: Alter> Store<S> {
         &self.executed
     }
 
-    /// The filter: the tables whose rows are kept; the empty one admits all tables. It takes no memory. A store that
-    /// has failed answers it too.
+    /// The filter: the tables whose rows are kept; the empty one admits all tables.
+    ///
+    /// It takes no memory. A store that has failed answers it too.
     ///
     /// Clauses: the above.
     pub fn following(&self) -> &Follow

@@ -57,11 +57,10 @@ fn push_packets(sequence: u8, payload: &[u8], out: &mut Vec<u8>) -> u8
 }
 
 /// Appends the packets of the payload, the first with the given sequence id, and returns the id that the next packet
-/// must have.
+/// must have. `TooLarge` if the payload is longer than [`LARGEST_PAYLOAD`].
 ///
 /// Clauses: as [`write_int`], and:
-/// - `too_large`, `only`: `TooLarge` exactly above 1 GiB, which is [`LARGEST_PAYLOAD`]; the only other fault is
-///   `Memory`
+/// - `too_large`, `only`: `TooLarge` exactly above 1 GiB; otherwise `Memory`
 pub fn write_payload(sequence: u8, payload: &[u8], out: &mut Vec<u8>) -> Result<u8, WireFault>
     ensures ok { IfOk result (λ next. AppendsPacking sequence payload.now out.old.items
         out.new.items next) }

@@ -73,11 +73,10 @@ impl TableDef {
 }
 
 impl TableMap<'_> {
-    /// Copies the names and the column types.
+    /// Copies the names and the column types. `Memory` comes only if a name has a byte or there is a column.
     ///
     /// Clauses:
-    /// - `ok`, `err`, `some`: the same names and columns, which outlive the payload; the only error is `Memory`, which
-    ///   comes only if a name has a byte or there is a column
+    /// - `ok`, `err`, `some`: the same names and columns, which outlive the payload; the only error is `Memory`
     pub fn copy(&self, alloc: Global) -> Result<TableDef, EventFault>
         ensures ok { IfOk result (λ copied. (copied.schema.items ≡ self.now.schema.now)
             × (copied.table.items ≡ self.now.table.now)
@@ -179,9 +178,8 @@ impl<'a> ColumnPlace<'a> {
     /// Reads the names in a table map and the number of its columns, and nothing after that.
     ///
     /// Clauses:
-    /// - `names`, `column`, `other`: the table that the names say, and the column whose type code is at the offset `at`
-    ///   in the event, if one is
-    /// - `none`: the names or the number of columns cannot be read
+    /// - `names`, `column`, `other`, `none`: the table that they name, and the column whose type code is at the offset
+    ///   `at` in the event, if one is; none if they cannot be read
     pub fn find(event: &'a [u8], at: usize) -> Option<ColumnPlace<'a>>
         ensures names { IfSome result (λ place. (place.schema.now ≡ named_schema event.now)
             × (place.table.now ≡ named_table event.now)) }
