@@ -53,7 +53,7 @@ pub struct InFile<T, D: Disk> {
 /// Clauses:
 /// - `works`: the closed files hold a content to which the work leads from what they held
 /// - `closing`, `turned`, `untouched`: where a database is refused, why, and that it is left as it was, with nothing
-///   reported; what files that were closed, or could not be, had held
+///   done or reported; what files that were closed, or could not be, had held
 pub fn in_file<P: Start, K: Work>(
     rt: &HostRuntime,
     path: &str,
