@@ -122,8 +122,8 @@ def shown(job, count, goal, seconds, spent, memory, beside=None):
     is_met = count / spent >= goal and memory <= MEMORY
     wanted = f' (goal {goal:,})' * (goal > 0) + ', **missed**' * (not is_met)
     other = f'{beside:.2f} s | {seconds / beside:.2f}' if beside else ' | '
-    print(f'| {job}, {count:,} changes | {seconds:.2f} s, {spent:.2f} of a processor | {other} | {count / seconds:,.0f}, '
-          f'{count / spent:,.0f} a second{wanted} | {memory} MiB |', flush=True)
+    print(f'| {job}, {count:,} changes | {seconds:.2f} s, {spent:.2f} | {other} | {count / seconds:,.0f}, '
+          f'{count / spent:,.0f}{wanted} | {memory} MiB |', flush=True)
     return not is_met
 
 

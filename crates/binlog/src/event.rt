@@ -55,11 +55,15 @@ pub enum Event<'a> {
     Xid { number: u64 },
 }
 
-/// Reads an event. It takes no memory.
+/// Reads an event.
 ///
 /// The first of these is reported: what is wrong with the header, as [`Header::read`] says; a transaction without a
 /// GTID as `Anonymous`, or a type that is not supported as `TypeCode`; what is wrong with the body. Fields are checked
 /// from left to right; one that does not fit is `Truncated`.
+///
+/// Clauses:
+/// - `found`, `only`, `fault`: the event that the bytes are, exactly where they are one; otherwise the first refusal,
+///   with its kind and its place. No memory is taken
 pub fn read_event(bytes: &[u8]) -> Result<Event<'_>, EventFault>
     ensures found { IfOk result (λ event. IsEvent set.empty (event_value event) bytes.now) }
     ensures only { (e : EventValue) → IsEvent set.empty e bytes.now
@@ -69,8 +73,10 @@ pub fn read_event(bytes: &[u8]) -> Result<Event<'_>, EventFault>
     read(bytes, None)
 }
 
-/// Like [`read_event`], with a list of tables: a table map of a table that the list does not read ([`Follow::reads`]) is not
-/// read after its names, and is answered as [`Event::OtherMap`]. An empty list means all tables.
+/// Like [`read_event`], with a list of tables: a table map of a table that the list does not read ([`Follow::reads`])
+/// is not read after its names, and is answered as [`Event::OtherMap`]. An empty list means all tables.
+///
+/// Clauses: as [`read_event`]
 pub fn read_event_only<'a>(bytes: &'a [u8], filter: &Follow) -> Result<Event<'a>, EventFault>
     ensures found { IfOk result (λ event. IsEvent filter.now (event_value event) bytes.now) }
     ensures only { (e : EventValue) → IsEvent filter.now e bytes.now
@@ -208,7 +214,9 @@ impl Event<'_> {
     /// Appends the event. The fields that a reader ignores are fixed: time 0, server 1, next position 0 and no flags. A
     /// neutral event is written as IGNORABLE without a body.
     ///
-    /// The only error is `Memory`: the vector lacks the room and cannot grow. It leaves the vector as it was.
+    /// Clauses:
+    /// - `ok`, `err`, `full`: the one spelling of the value is appended; an error, only without room, leaves the vector
+    ///   as it was
     #[tactic(auto, using(crate::proofs::EventBytes::writable_short))]
     pub fn write(&self, out: &mut Vec<u8>) -> Result<(), EventFault>
         requires { IsWritable (event_value self.now) }

@@ -49,8 +49,10 @@ impl Follow {
         }
     }
 
-    /// The tables of a list, each a schema and a name. Duplicates count once, and an empty list means all tables. The
-    /// only error is `Memory`.
+    /// The tables of a list, each a schema and a name. Duplicates count once, and an empty list means all tables.
+    ///
+    /// Clauses:
+    /// - `ok`, `err`: the set of the list; the only error is `Memory`
     pub fn new(alloc: Global, names: &[(Vec<u8>, Vec<u8>)]) -> Result<Follow, EventFault>
         ensures ok { IfOk result (λ follow. follow ≡ set.from_list (name_list names.now)) }
         ensures err { IfErr result (λ fault. fault ≡ record { kind = Memory; at = 0 }) }
@@ -61,8 +63,10 @@ impl Follow {
         Ok(Follow { names })
     }
 
-    /// The names, each once and in ascending order by the bytes of the schema and then of the table. If all tables are
-    /// followed there are none.
+    /// The names, each once and in ascending order by the bytes of the schema and then of the table; none if all tables
+    /// are followed.
+    ///
+    /// Clauses: `ascend`, `set`: the above.
     pub fn names(&self) -> &[(Vec<u8>, Vec<u8>)]
         ensures ascend { IsStrictlySortedBy name_cmp (name_list result.now) }
         ensures set { set.from_list (name_list result.now) ≡ self.now }
@@ -80,7 +84,11 @@ impl Follow {
         are_among(&other.names, &self.names)
     }
 
-    /// Whether a table is followed. It takes no memory.
+    /// Whether a table is followed.
+    ///
+    /// It takes no memory.
+    ///
+    /// Clauses: the above.
     pub fn follows(&self, schema: &[u8], table: &[u8]) -> bool
         ensures { result ≡ admits self.now schema.now table.now }
     {

@@ -32,6 +32,9 @@ impl Header {
     ///
     /// A field that does not fit the bytes is reported as `Truncated` at its first byte; then a size other than the
     /// number of the bytes as `Size`.
+    ///
+    /// Clauses: as [`read_event`], and:
+    /// - `size`: the size is the number of the bytes
     #[tactic(auto, unfolding(crate::specs::Header::header_fault))]
     pub fn read(bytes: &[u8]) -> Result<Header, EventFault>
         ensures found { IfOk result (λ header. IsFramed header.code header.may_ignore

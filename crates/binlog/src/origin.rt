@@ -31,7 +31,11 @@ pub struct Origin {
 }
 
 impl Origin {
-    /// Reads the two fields of a whole event; `None` if it is shorter than a header.
+    /// Reads the two fields of a whole event; `None` if it is shorter than a header. Nothing that is applied depends on
+    /// them.
+    ///
+    /// Clauses:
+    /// - `found`, `only`: seconds and server id of a header, exactly where there is one
     pub fn read(event: &[u8]) -> Option<Origin>
         ensures found { IfSome result (λ origin. IsWrittenAt origin.seconds origin.server_id
             event.now) }
@@ -48,8 +52,12 @@ impl Origin {
     }
 }
 
-/// When the transaction of a GTID event was committed on the server that sends it, in microseconds since 1970-01-01 00:00:00
-/// UTC. `None` for another event, and where the event does not have it: servers write it from MySQL 8.0.1 on.
+/// When the transaction of a GTID event was committed on the server that sends it, in microseconds since 1970-01-01
+/// 00:00:00 UTC. `None` for another event, and where the event does not have it: servers write it from MySQL 8.0.1 on.
+/// Nothing that is applied depends on it.
+///
+/// Clauses:
+/// - `found`, `only`: the time of the commit, exactly where the event has it
 pub fn committed_micros(event: &[u8]) -> Option<u64>
     ensures found { IfSome result (λ micros. IsCommittedAt micros event.now) }
     ensures only { (micros : ℕ) → IsCommittedAt micros event.now → result ≡ Some micros }

@@ -39,8 +39,12 @@ const NOTHING: &[u8] = b"";
 const STAR: &[u8] = b"*";
 
 impl Follow {
-    /// A filter of tables that are read, and none that is kept: the tables of a list, each a schema and a name, of which `*`
-    /// means all tables of the schema; an empty list means all tables. The only error is `Memory`.
+    /// A filter of tables that are read, and none that is kept: the tables of a list, each a schema and a name, of
+    /// which `*` means all tables of the schema; an empty list means all tables.
+    ///
+    /// Clauses:
+    /// - `reads`, `keeps`, `err`: it reads what is asked for, and admits no table with a schema of less than 256 bytes,
+    ///   which are all; the only error is `Memory`
     pub fn not_kept(alloc: Global, names: &[(Vec<u8>, Vec<u8>)]) -> Result<Follow, EventFault>
         ensures reads { IfOk result (λ follow. (schema table : List ℕ) → length schema < 256
             → is_read follow schema table ≡ is_asked (name_list names.now) schema table) }
@@ -53,6 +57,9 @@ impl Follow {
     }
 
     /// Whether rows of some table are kept. It takes no memory.
+    ///
+    /// Clauses:
+    /// - `none`, `some`: whether it admits a table with a schema of less than 256 bytes
     pub fn keeps_rows(&self) -> bool
         ensures none { result ≡ false → (schema table : List ℕ) → length schema < 256
             → admits self.now schema table ≡ false }
@@ -67,8 +74,12 @@ impl Follow {
         has_short(names)
     }
 
-    /// Whether the changes of a table are read: those of each table that is followed, and of each for which the list has a
-    /// name that says that it is read and not kept. It takes no memory.
+    /// Whether the changes of a table are read: it is kept, or a name of the list means it as one that is read and not
+    /// kept (`is_read`).
+    ///
+    /// It takes no memory.
+    ///
+    /// Clauses: the above.
     pub fn reads(&self, schema: &[u8], table: &[u8]) -> bool
         ensures { result ≡ is_read self.now schema.now table.now }
     {
@@ -128,8 +139,11 @@ fn compare_joined(bytes: &[u8], first: &[u8], second: &[u8]) -> Ordering
     }
 }
 
-/// The schema and the name of what a name of a filter means, if its tables are read and not kept: `*` stands for each name,
-/// and for each schema.
+/// The schema and the name of what a name of a filter means, if its tables are read and not kept: `*` stands for each
+/// name, and for each schema.
+///
+/// Clauses:
+/// - `some`, `none`: what such a name means, exactly where it means something
 pub fn meant(name: &(Vec<u8>, Vec<u8>)) -> Option<(&[u8], &[u8])>
     ensures some { IfSome result (λ m. IsMeantBy (m.0.now, m.1.now)
         (name.now.0.items, name.now.1.items)) }

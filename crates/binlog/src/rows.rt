@@ -48,8 +48,12 @@ impl<'a> RowsEvent<'a> {
     /// The row changes of the event, whose columns are those of the table. It takes no memory.
     ///
     /// `Columns` if the table has another number of columns than the event; its offset is that of the event's number of
-    /// columns. A row that does not fit ends the iteration: the last item is then `Truncated` at the row's bitmap, or
-    /// at the length or the bytes of a value.
+    /// columns. The fault of a row that does not fit is `Truncated`, at the row's bitmap, or at the length or the bytes
+    /// of a value.
+    ///
+    /// Clauses:
+    /// - `columns`, `only`, `items`: the pairs of the event's rows in order, or those before the first that does not
+    ///   fit and then that fault
     pub fn rows(&self, table: &'a TableDef) -> Result<Rows<'a>, EventFault>
         ensures columns { (result ≡ Err (record {
           kind = EventFaultKind.Columns;
@@ -150,7 +154,7 @@ pub fn rows_fit(kind: RowsKind, types: &[ColumnType], pairs: &[OwnedPair]) -> bo
 /// Appends the rows of the pairs, one after the other: for each row the bitmap of its null cells, the lowest bit first,
 /// and the values of the others. The unused bits of a bitmap are 0.
 ///
-/// The only error is `Memory`, which leaves the vector as it was.
+/// Clauses: as [`Event::write`]
 pub fn write_rows(
     kind: RowsKind,
     types: &[ColumnType],

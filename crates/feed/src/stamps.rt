@@ -26,7 +26,11 @@ pub struct Stamps {
 }
 
 impl Stamps {
-    /// Nothing is known. It takes no memory.
+    /// Nothing is known.
+    ///
+    /// It takes no memory.
+    ///
+    /// Clauses: `known`, `seconds`: the above.
     pub fn new(alloc: Global) -> Stamps
         ensures known { (result.server ≡ None) × ((result.committed ≡ None) × (result.xid ≡ None)) }
         ensures seconds { result.seconds ≡ [] }
@@ -40,6 +44,8 @@ impl Stamps {
     }
 
     /// Forgets all.
+    ///
+    /// Clauses: as [`Stamps::new`]
     pub fn clear(&mut self)
         ensures known { (self.new.server ≡ None) × ((self.new.committed ≡ None)
             × (self.new.xid ≡ None)) }
@@ -48,15 +54,26 @@ impl Stamps {
         self.begin(None, None);
     }
 
-    /// When the sending server committed the transaction, in microseconds since 1970-01-01 00:00:00 UTC, if that is known.
+    /// When the sending server committed the transaction, in microseconds since 1970-01-01 00:00:00 UTC, if that is
+    /// known.
+    ///
+    /// Clauses: the above.
     pub fn committed_at(&self) -> Option<u64>
         ensures { result ≡ self.now.committed }
     {
         self.committed
     }
 
-    /// Takes an event, its bytes, and how many changes the open transaction had before it. A GTID event begins anew. If
-    /// memory runs out, which it does only at a rows event, the seconds of the changes before it stay as they were.
+    /// Takes an event, its bytes, and how many changes the open transaction had before it. If memory runs out, the
+    /// seconds of the changes before it stay as they were.
+    ///
+    /// Clauses:
+    /// - `begun`: after a GTID event the server is that of its header, the time of the commit that of its body, each
+    ///   known exactly where the event has it, and nothing else is known
+    /// - `rows`, `before`: after a rows event with so many changes before it, the changes from there on have the
+    ///   seconds of its header, and those before it the ones that they had
+    /// - `xid`, `kept`: an XID event adds its number, and any event but these three changes nothing
+    /// - `memory`: memory runs out only at a rows event
     pub fn event(
         &mut self,
         event: &Event<'_>,

@@ -87,6 +87,8 @@ impl<R: BufRead> Deliveries for CopiedRows<R> {
         c.loader.taker.description.tables.items c.loader.source c.loader.given c.loader.rows
         (prepend_known c.loader.line.items (R.Read.remaining c.loader.reader))) };
 
+    /// Clauses:
+    /// - what `gather::Deliveries` asks: all transactions are those of all lines
     fn next(&mut self) -> Result<Option<Delivery>, RowsFault> {
         if self.changed {
             return Err(RowsFault::Changed);

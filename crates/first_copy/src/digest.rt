@@ -9,6 +9,8 @@ use std::io;
 use std::io::Read;
 
 /// The SHA-1 of all that a reader still gives, a piece at a time.
+///
+/// Clauses: the above.
 pub fn text_digest<R: Read>(reader: &mut R, piece: &mut [u8]) -> io::Result<[u8; 20]>
     requires { 0 < length piece.old }
     ensures { IfOk result (λ digest. IfSome (R.remaining reader.old)

@@ -13,6 +13,9 @@ use std::io::BufRead;
 pub(crate) const FIRST: &[u8] = b"mrep copy 1\n";
 
 /// Reads the first two lines: what the text is, and the set of the transactions whose changes are in the rows.
+///
+/// Clauses:
+/// - the text loses exactly its first two lines
 pub fn read_head<R: BufRead>(alloc: Global, reader: &mut R) -> Result<GtidSet, CopyFault>
     ensures { IfOk result (λ ids. TakesHead ids (R.Read.remaining reader.old)
         (R.Read.remaining reader.new)) }

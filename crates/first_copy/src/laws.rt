@@ -18,6 +18,10 @@ ghost use Rattle.first_copy.specs.LoadedText.{HasLinesOf};
 ghost use Rattle.first_copy.specs.Supplied.{within, supply_of};
 
 /// A text that is loaded whole adds its rows, each line once.
+///
+/// Clauses:
+/// - a law: if all transactions of a text, none of which was executed before, are applied, each row of the text is
+///   added once, and the set and the transactions are executed
 pub fn loaded()
     // If all transactions of a text, of a source none of whose transactions from the second GTID on was executed before, and the one
     // that says that the copy has ended, are applied to a content with a set added, and the filter admits the tables of the copy: then the text

@@ -218,10 +218,16 @@ impl<R: BufRead> Loader<R> {
         Ok(None)
     }
 
-    /// The next transaction: its GTID has the loader's source and a number that is one more than that of the one before,
-    /// from 2 on, and its changes add the rows of the next lines, in order. It ends after the line with which they have
-    /// [`CHUNK`] bytes or more, or before the line at the end. `None` comes once that line is read, which says how many rows
-    /// were given, and after which nothing follows. After an error the loader has ended with it, and gives no more.
+    /// The next transaction: its GTID has the loader's source and a number that is one more than that of the one
+    /// before, from 2 on. It ends after the line with which its changes have [`CHUNK`] bytes or more, or before the
+    /// line at the end.
+    ///
+    /// Clauses:
+    /// - `given`: a transaction with the next number, whose changes add the rows of the next lines, in order
+    /// - `finished`, `ended`, `going`, `after_end`: `None` comes where the line at the end is left, with the number of
+    ///   the rows that were given, and nothing follows it
+    /// - `fault`, `failed`, `goes_on`, `again`, `kept`: a fault is that of a line, by its number; after an error each
+    ///   call fails
     pub fn next(&mut self) -> Result<Option<Delivery>, CopyFault>
         ensures given { IfOk result (λ found. IfSome found (λ d.
             IsGiven self.old.taker.description.tables.items self.old.source self.old.given

@@ -34,10 +34,14 @@ impl RowReader {
         }
     }
 
-    /// Reads the line of a row of one of the described tables: the place of the table in the description, and the image of
-    /// the row. The names of the schema and the table stand in front, with the client's escapes and a tab after each, as in
-    /// the lines of the description; then the fields of the row, one for each column, with tabs between and a newline at the
-    /// end. A field is `NULL` or the text that [`columns::ColumnType::write_field`] takes.
+    /// Reads the line of a row of one of the described tables: the place of the table in the description, and the image
+    /// of the row. The names of the schema and the table stand in front, with the client's escapes and a tab after
+    /// each, as in the lines of the description; then the fields of the row, one for each column, with tabs between and
+    /// a newline at the end. A field is `NULL` or the text that [`columns::ColumnType::write_field`] takes.
+    ///
+    /// Clauses:
+    /// - `found`, `image`, `only`, `fault`: the line is that of a row of the described table that is answered, and the
+    ///   image has the cells that a server sends for its fields; each fault is what it says, by the number of the field
     pub fn read(
         &mut self,
         alloc: Global,

@@ -152,6 +152,10 @@ pub struct Summary {
 
 impl Summary {
     /// Reads a copy of described tables to its end.
+    ///
+    /// Clauses:
+    /// - `source`, `first`: the source of the transactions is the UUID of version 5 of the set and of the lines' SHA-1
+    ///   (`copy_source`); its first number is 1
     pub fn of<R: BufRead + Drop>(
         alloc: Global,
         description: Description,
@@ -186,6 +190,9 @@ impl Summary {
     }
 
     /// The copy, without its rows.
+    ///
+    /// Clauses:
+    /// - `gtids`, `first`, `tables`: the set, the first transaction and the tables
     pub fn copy(&self) -> FirstCopy<'_>
         ensures gtids { result.gtids.now ≡ self.now.executed }
         ensures first { result.first ≡ self.now.first }
@@ -208,6 +215,9 @@ impl Summary {
     }
 
     /// Its transactions, read once more. They are those of the copy that was read before, or not given.
+    ///
+    /// Clauses:
+    /// - `begin`, `names`, `described`, `text`: a loader of the same that has given nothing
     pub fn rows<R: BufRead + Drop>(
         &self,
         alloc: Global,

@@ -59,6 +59,10 @@ pub fn write_name<W: Write>(name: &[u8], out: &mut W) -> io::Result<()>
 }
 
 /// Writes the name of a table after that of its schema.
+///
+/// Clauses:
+/// - where it is done, an output whose contract gives its bytes has the name of the table after what it had: every byte
+///   but digits, letters, `_` and `$` is `%` and two digits (`specs/NameText.antt`)
 pub fn write_table<W: Write>(schema: &[u8], table: &[u8], out: &mut W) -> io::Result<()>
     ensures { OnOk result (Appends (W.contents out.old) (W.contents out.new)
         (qualified_text schema.now table.now)) }

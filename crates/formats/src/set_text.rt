@@ -7,6 +7,9 @@ use gtid::GtidSet;
 use std::alloc::{AllocError, Global};
 
 /// The text of a set.
+///
+/// Clauses:
+/// - the text is that of the set (`AppendsText` of `gtid`); it fails only if memory runs out
 pub fn text_of(alloc: Global, ids: &GtidSet) -> Result<String, AllocError>
     ensures { IfOk result (λ text. AppendsText ids.now [] (string_bytes text)) }
 {

@@ -53,6 +53,9 @@ impl fmt::Display for Moment {
 impl fmt::Display for TypeText {
     ghost output = { λ text. Some (kind_text text.0) };
 
+    /// Clauses:
+    /// - what `{}` writes: the text of the type (`specs/TypeText.antt`), its name in SQL and the numbers of its
+    ///   metadata
     fn fmt<W: fmt::Write>(&self, f: &mut fmt::Formatter<W>) -> fmt::Result {
         match self.0 {
             ColumnKind::Tiny => f.write_str("TINYINT"),

@@ -88,7 +88,11 @@ impl Changes {
         }
     }
 
-    /// Appends: the row is added to the table. The only error is `Memory`, and then the changes are as they were.
+    /// Appends: the row is added to the table.
+    ///
+    /// Clauses:
+    /// - `ok`, `err`, `kept`: this change is appended; the only error is `Memory`, after which the changes are as they
+    ///   were
     pub fn insert(&mut self, table: &Rc<TableDef>, after: &Image) -> Result<(), GatherFault>
         ensures ok { OnOk result (self.new ≡ self.old ++ insert table.now.value.schema.items
             table.now.value.table.items after.now ∷ []) }
@@ -98,7 +102,9 @@ impl Changes {
         self.add(table, &[], after.bytes())
     }
 
-    /// Appends: the row is removed from the table. The only error is `Memory`, and then the changes are as they were.
+    /// Appends: the row is removed from the table.
+    ///
+    /// Clauses: as [`Changes::insert`]
     pub fn delete(&mut self, table: &Rc<TableDef>, before: &Image) -> Result<(), GatherFault>
         ensures ok { OnOk result (self.new ≡ self.old ++ delete table.now.value.schema.items
             table.now.value.table.items before.now ∷ []) }
@@ -108,8 +114,9 @@ impl Changes {
         self.add(table, before.bytes(), &[])
     }
 
-    /// Appends: `before` is removed from the table and `after` is added. The only error is `Memory`, and then the changes
-    /// are as they were.
+    /// Appends: `before` is removed from the table and `after` is added.
+    ///
+    /// Clauses: as [`Changes::insert`]
     pub fn update(
         &mut self,
         table: &Rc<TableDef>,

@@ -17,6 +17,10 @@ pub trait Deliveries {
     ghost supply: { Self → Supply };
 
     /// The next transaction; none where all were given. An error takes none of them away.
+    ///
+    /// Clauses:
+    /// - `gives`: what a giver of transactions says of itself: the next one is the first that remains
+    ///   (`specs/Given.antt`)
     fn next(&mut self) -> Result<Option<Delivery>, Self::Error>
         ensures gives { GivesNext (supply self.old) (supply self.new) result };
 }

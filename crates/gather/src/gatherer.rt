@@ -52,9 +52,15 @@ impl Gatherer {
     /// Takes the next event, and returns the transaction that it ends, if it ends one.
     ///
     /// An event that may not follow those before it is reported as `NoFormat`, `Misplaced`, `UnknownTable` or `Event`,
-    /// whichever applies first in this order; `Memory` if memory runs out, only at an event in place of which something is
-    /// kept: a table map of a table that is followed, the first with its number of another table, or a rows event that
-    /// begins with a row of a table that is followed. After a fault each call answers `Ended`.
+    /// whichever applies first in this order; `Memory` if memory runs out.
+    ///
+    /// Clauses:
+    /// - `taken`: for every list of events so far: the answers so far and this one are the list's whole transactions in
+    ///   order
+    /// - `fault`: otherwise the event breaks the list, and the fault is the first that fits; or out of memory
+    /// - `memory`: that comes only at an event of which something is kept: a table map of a followed table, the first
+    ///   with its number of another table, or a rows event that begins with a row of one
+    /// - `ended`, `err`: after a fault every call is `Ended`
     pub fn event(&mut self, event: &Event<'_>) -> Result<Option<Delivery>, GatherFault>
         ensures taken { (events : List EventValue) (ds : List DeliveryValue)
             → HasGathered events ds self.old → IfOk result

@@ -39,8 +39,11 @@ impl Model for Image {
 
 impl Image {
     /// The image of the cells. `None` if there are more than 65,535 cells, a number has a width other than 1 to 8 bytes
-    /// or does not fit its width, or a cell has 4 GiB or more. The only error is `Memory`, which comes only where the
-    /// cells have an image.
+    /// or does not fit its width, or a cell has 4 GiB or more.
+    ///
+    /// Clauses:
+    /// - `found`, `err`, `memory`: the image of the cells, or that the bytes are, exactly where there is one; the only
+    ///   error is `Memory`, which comes only there
     pub fn new(alloc: Global, cells: &[Cell<'_>]) -> Result<Option<Image>, GatherFault>
         ensures found { IfOk result (λ found. MatchOption found
             (HasImage (cell_values cells.now) → ⊥)
@@ -56,8 +59,9 @@ impl Image {
         Ok(Some(Image { bytes }))
     }
 
-    /// The image that these bytes are, or `None` if they are not one. The only error is `Memory`, which comes only where
-    /// they are one.
+    /// The image that these bytes are, or `None` if they are not one.
+    ///
+    /// Clauses: as [`Image::new`]
     pub fn read(alloc: Global, bytes: &[u8]) -> Result<Option<Image>, GatherFault>
         ensures found { IfOk result (λ found. MatchOption found
             ((cells : List CellValue) → IsImage cells bytes.now → ⊥)

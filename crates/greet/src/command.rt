@@ -15,8 +15,9 @@ use byteorder::{ByteOrder, LittleEndian};
 /// The position of the first event in a binary log file.
 const FIRST_POSITION: u64 = 4;
 
-/// Appends a COM_QUERY with this text. The only error is `Memory`: the vector lacks the room and cannot grow. It leaves
-/// the vector as it was.
+/// Appends a COM_QUERY with this text.
+///
+/// Clauses: as [`Greeting::write`]
 pub fn query(text: &[u8], out: &mut Vec<u8>) -> Result<(), GreetFault>
     ensures ok { OnOk result (out.new.items ≡ out.old.items ++ query_bytes text.now) }
     ensures err { OnErr result ((result ≡ Err GreetFault.Memory)
@@ -47,8 +48,9 @@ impl<'a> Dump<'a> {
         self.set.len() <= u32::MAX as usize
     }
 
-    /// Appends the command, with an empty file name and position 4. The only error is `Memory`: the vector lacks the
-    /// room and cannot grow. It leaves the vector as it was.
+    /// Appends the command, with an empty file name and position 4.
+    ///
+    /// Clauses: as [`Greeting::write`]
     pub fn write(&self, out: &mut Vec<u8>) -> Result<(), GreetFault>
         requires { FitsDump (dump_value self.now) }
         ensures ok { OnOk result (out.new.items ≡ out.old.items ++ dump_bytes
@@ -73,10 +75,13 @@ impl<'a> Dump<'a> {
         )
     }
 
-    /// Reads a dump command with any file name and position. It takes no memory.
+    /// Reads a dump command with any file name and position.
     ///
     /// `Truncated` if the payload is empty, a field does not fit or bytes are left over; `Unexpected` if the first byte
     /// is not that of the command.
+    ///
+    /// Clauses: as [`Greeting::read`], and:
+    /// - `no_memory`: it takes no memory
     pub fn read(payload: &'a [u8]) -> Result<Dump<'a>, GreetFault>
         ensures found { IfOk result (λ dump. IsDump (dump_value dump) payload.now) }
         ensures only { (d : DumpValue) → IsDump d payload.now

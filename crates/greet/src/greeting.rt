@@ -66,8 +66,12 @@ impl Greeting {
     /// The first of these is reported: an empty payload as `Truncated`; an ERR as `ServerError`, or as `Truncated` if
     /// it is shorter than three bytes; another protocol version as `Protocol`; a field up to the reserved bytes that is
     /// not there as `Truncated`; needed capability flags that are missing as `Capabilities`; a second part of the
-    /// scramble that is too short as `Truncated`. `Memory` if an allocation was refused, for an ERR or a whole greeting
-    /// alone: of these a text is kept.
+    /// scramble that is too short as `Truncated`. `Memory` if an allocation was refused, for an ERR or a whole
+    /// greeting.
+    ///
+    /// Clauses:
+    /// - `found`, `only`, `fault`: the message that the payload is, always where it is one; otherwise its first fault
+    /// - `memory`: memory is taken only where a text is kept
     pub fn read(alloc: Global, payload: &[u8]) -> Result<Greeting, GreetFault>
         ensures found { IfOk result (λ greeting. IsGreeting (greeting_value greeting) payload.now) }
         ensures only { (g : GreetingValue) → IsGreeting g payload.now
@@ -85,8 +89,11 @@ impl Greeting {
         }
     }
 
-    /// Appends the greeting's payload. The only error is `Memory`: the vector lacks the room and cannot grow. It leaves
-    /// the vector as it was.
+    /// Appends the greeting's payload.
+    ///
+    /// Clauses:
+    /// - `ok`, `err`, `full`: the message is appended; the only error is `Memory`, only without room, and leaves the
+    ///   vector as it was
     pub fn write(&self, out: &mut Vec<u8>) -> Result<(), GreetFault>
         requires { FitsGreeting (greeting_value self.now) }
         ensures ok { OnOk result (out.new.items ≡ out.old.items ++ greeting_bytes

@@ -5,9 +5,11 @@ ghost use Rattle.greet.specs.Native.{native_answer, xor_digests};
 
 use sha1::Sha1;
 
-/// The response to a scramble: `SHA1(password) xor SHA1(scramble, SHA1(SHA1(password)))`. It takes no memory.
+/// The response to a scramble. It takes no memory.
 ///
-/// The response to the empty password is no bytes at all: callers must handle that case themselves.
+/// Clauses:
+/// - `SHA1(password) xor SHA1(scramble, SHA1(SHA1(password)))`. The empty password has an empty answer, which callers
+///   must handle
 pub fn native(password: &[u8], scramble: &[u8; 20]) -> [u8; 20]
     ensures { result ≡ native_answer password.now scramble.now }
 {

@@ -33,8 +33,12 @@ impl AuthReply {
     /// An empty payload, or an OK whose fields do not fit, is reported as `Truncated`, an ERR as `ServerError` (as
     /// `Truncated` if it is shorter than three bytes), and another first byte as `Unexpected`. For a switch the first
     /// of these is reported: one byte alone as `OldAuth`, a plugin name without its zero byte as `Truncated`, another
-    /// plugin as `Plugin`, and a scramble of fewer than 20 bytes as `Truncated`. `Memory` for an ERR alone, whose message
-    /// is kept: an allocation was refused.
+    /// plugin as `Plugin`, and a scramble of fewer than 20 bytes as `Truncated`. `Memory` if an allocation was refused.
+    ///
+    /// Clauses:
+    /// - `ok`, `switch`, `only_ok`, `only_switch`, `fault`: the OK, or the switch, that the payload is, always where it
+    ///   is one; otherwise its first fault
+    /// - `memory`: only for an ERR, whose message is kept
     pub fn read(alloc: Global, payload: &[u8]) -> Result<AuthReply, GreetFault>
         ensures ok { result ≡ Ok AuthReply.Ok → IsOkPacket payload.now }
         ensures switch { (scramble : List ℕ) → result ≡ Ok (AuthReply.Switch scramble)
@@ -85,8 +89,12 @@ fn read_switch(body: &[u8]) -> Result<[u8; 20], GreetFault>
 /// Reads an OK.
 ///
 /// An empty payload, or an OK whose fields do not fit, is reported as `Truncated`, an ERR as `ServerError` (as
-/// `Truncated` if it is shorter than three bytes), and another first byte as `Unexpected`. `Memory` for an ERR alone,
-/// whose message is kept: an allocation was refused.
+/// `Truncated` if it is shorter than three bytes), and another first byte as `Unexpected`. `Memory` if an allocation
+/// was refused.
+///
+/// Clauses:
+/// - `ok`, `only`, `fault`: done exactly where the payload is the message; otherwise its first fault
+/// - `memory`: only for an ERR, whose message is kept
 pub fn read_ok(alloc: Global, payload: &[u8]) -> Result<(), GreetFault>
     ensures ok { OnOk result (IsOkPacket payload.now) }
     ensures only { IsOkPacket payload.now → MatchResult result (λ _. ⊤) (λ fault. fault
@@ -133,7 +141,9 @@ fn after_int(bytes: &[u8]) -> Option<&[u8]>
 ///
 /// An empty payload, or an EOF that is cut short, is reported as `Truncated`, an ERR as `ServerError` (as `Truncated`
 /// if it is shorter than three bytes), and another first byte, or a payload of nine bytes or more, as `Unexpected`.
-/// `Memory` for an ERR alone, whose message is kept: an allocation was refused.
+/// `Memory` if an allocation was refused.
+///
+/// Clauses: as [`read_ok`]
 pub fn read_eof(alloc: Global, payload: &[u8]) -> Result<(), GreetFault>
     ensures ok { OnOk result (IsEofPacket payload.now) }
     ensures only { IsEofPacket payload.now → MatchResult result (λ _. ⊤) (λ fault. fault

@@ -34,8 +34,9 @@ impl Response {
         is_text(&self.user) && self.auth.len() < 256
     }
 
-    /// Appends the payload. The only error is `Memory`: the vector lacks the room and cannot grow. It leaves the vector
-    /// as it was.
+    /// Appends the payload.
+    ///
+    /// Clauses: as [`Greeting::write`]
     pub fn write(&self, out: &mut Vec<u8>) -> Result<(), GreetFault>
         requires { FitsResponse (response_value self.now) }
         ensures ok { OnOk result (out.new.items ≡ out.old.items ++ response
@@ -57,6 +58,8 @@ impl Response {
     /// The first of these is reported: a field that does not fit, or bytes left over, as `Truncated`; another plugin as
     /// `Plugin`; the first of the leading 32 bytes that differs from what the replica sends as `Protocol`. `Memory` if
     /// an allocation was refused, for a whole response alone.
+    ///
+    /// Clauses: as [`Greeting::read`]
     pub fn read(alloc: Global, payload: &[u8]) -> Result<Response, GreetFault>
         ensures found { IfOk result (λ read. IsResponse (response_value read) payload.now) }
         ensures only { (r : ResponseValue) → IsResponse r payload.now

@@ -33,6 +33,8 @@ impl Beside {
     }
 
     /// The one span that the number and its neighbours make together.
+    ///
+    /// Clauses: the above.
     pub fn joined(&self, gtid: Gtid) -> Span
         ensures { result ≡ joined (id gtid) self.now.below self.now.above }
     {

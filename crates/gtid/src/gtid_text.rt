@@ -15,6 +15,9 @@ impl Gtid {
     /// as one with blanks or with a second number.
     ///
     /// The form is that of the MySQL Reference Manual, "GTID Format and Storage".
+    ///
+    /// Clauses:
+    /// - `found`, `only`: a GTID exactly where the text is one; no memory
     pub fn parse(text: &str) -> Option<Gtid>
         ensures found { IfSome result (λ gtid. IsGtidText text.now (id gtid)) }
         ensures only { (q : Id) → IsGtidText text.now q → IsSomeAnd result (λ gtid. id gtid ≡ q) }

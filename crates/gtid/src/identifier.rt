@@ -17,7 +17,9 @@ impl Gtid {
     /// The greatest transaction number, 2^63 - 2.
     pub const GREATEST: u64 = 9_223_372_036_854_775_806;
 
-    /// The GTID, if the number is from 1 to `GREATEST`.
+    /// The GTID with this source and number, exactly where the number is from 1 to 2^63 - 2.
+    ///
+    /// Clauses: `in_range`, `parts`: the above.
     pub fn new(source: [u8; 16], number: u64) -> Option<Gtid>
         ensures in_range { IsSome result ↔ ((1 ≤ number) × (number ≤ Self.GREATEST)) }
         ensures parts { IfSome result (λ gtid. (gtid.source ≡ source) × (gtid.number ≡ number)) }

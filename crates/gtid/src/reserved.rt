@@ -53,7 +53,10 @@ impl Model for Reserved {
 
 impl Reserved {
     /// The neighbours of the GTID: the span of its source that ends just before it, and the one that begins just after
-    /// it. Adding the GTID joins them. Neither is empty or has a number outside 1 to 2^63 - 2. It takes no memory.
+    /// it. Neither is empty or has a number outside 1 to 2^63 - 2. It takes no memory.
+    ///
+    /// Clauses:
+    /// - `joins`, `below`, `above`: the intervals that a new GTID touches
     pub fn beside(&self) -> Beside
         ensures joins { (spans : List Span) → IsLeastList spans self.now.0
             → Joins self.now.0 self.now.1 result spans }

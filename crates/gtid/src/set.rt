@@ -77,8 +77,11 @@ impl GtidSet {
         are_subset(&self.groups, &other.groups)
     }
 
-    /// Adds a GTID, and returns whether it is new. The only error is `Memory`, which comes only for a new GTID with
-    /// neither neighbour in the set, and leaves the set as it was.
+    /// Adds a GTID.
+    ///
+    /// Clauses:
+    /// - `ok`, `there`, `near`, `err`: the set has the GTID too, and the answer is whether it is new; no memory for one
+    ///   that is there or has a neighbour, otherwise the only error is `Memory`, which leaves the set as it was
     pub fn insert(&mut self, gtid: Gtid) -> Result<bool, GtidFault>
         ensures ok { IfOk result (λ new. (new ≡ not (set.contains self.old (id gtid)))
             × (self.new ≡ set.insert self.old (id gtid))) }
@@ -90,8 +93,12 @@ impl GtidSet {
         insert(&mut self.groups, gtid)
     }
 
-    /// Looks a GTID up, and makes room for it if it is not in the set, so that adding it cannot fail. For a GTID in the
-    /// set, or with a neighbour in it, it takes no memory.
+    /// Looks a GTID up, and makes room for it if it is not in the set. For a GTID in the set, or with a neighbour in
+    /// it, it takes no memory.
+    ///
+    /// Clauses:
+    /// - one look-up: in the set; new, with room for it; or new, and an allocation was refused. `Reserved::insert` then
+    ///   cannot fail
     pub fn entry(self, gtid: Gtid) -> Entry
         ensures { IsLookUp self (id gtid) result }
     {
@@ -107,8 +114,12 @@ impl GtidSet {
         }
     }
 
-    /// Adds the GTIDs of the other set. The only error is `Memory`, which comes only if the other set has a GTID that this
-    /// one lacks, and leaves the set as it was.
+    /// Adds the GTIDs of the other set.
+    ///
+    /// Clauses:
+    /// - `ok`, `err`, `none`: the union, by [`GtidSet::subtract`] the difference, by [`GtidSet::copy`] the same set;
+    ///   the only error is `Memory`, which leaves the set as it was, and does not come for empty sets
+    /// - `subset`: no memory where nothing is to be added or removed
     pub fn union(&mut self, other: &GtidSet) -> Result<(), GtidFault>
         ensures ok { OnOk result (self.new ≡ set.union self.old other.now) }
         ensures err { OnErr result ((result ≡ Err GtidFault.Memory) × (self.new ≡ self.old)) }
@@ -126,8 +137,11 @@ impl GtidSet {
         Ok(())
     }
 
-    /// Removes the GTIDs of the other set. The only error is `Memory`, which comes only if the other set has some of this
-    /// one's GTIDs and lacks others, and leaves the set as it was.
+    /// Removes the GTIDs of the other set. `Memory` comes only if the other set has some of this one's GTIDs and lacks
+    /// others.
+    ///
+    /// Clauses: as [`GtidSet::union`], and:
+    /// - `apart`: no memory also with sets apart
     pub fn subtract(&mut self, other: &GtidSet) -> Result<(), GtidFault>
         ensures ok { OnOk result (self.new ≡ set.difference self.old other.now) }
         ensures err { OnErr result ((result ≡ Err GtidFault.Memory) × (self.new ≡ self.old)) }
@@ -154,7 +168,9 @@ impl GtidSet {
         Ok(())
     }
 
-    /// A copy of the set. The only error is `Memory`, which comes only if the set is not empty.
+    /// A copy of the set.
+    ///
+    /// Clauses: as [`GtidSet::union`]
     pub fn copy(&self) -> Result<GtidSet, GtidFault>
         ensures ok { IfOk result (λ copied. copied ≡ self.now) }
         ensures err { IfErr result (λ fault. fault ≡ GtidFault.Memory) }
@@ -169,6 +185,9 @@ impl GtidSet {
     }
 
     /// The least intervals of the set: by the source's bytes, then by number, in ascending order. It takes no memory.
+    ///
+    /// Clauses:
+    /// - `covers`, `least`: the one list of least intervals
     pub fn spans(&self) -> Spans<'_>
         ensures { IsLeastList result self.now }
     {
@@ -176,8 +195,11 @@ impl GtidSet {
     }
 
     /// Appends the set as the data of COM_BINLOG_DUMP_GTID: the number of sources, and for each its 16 bytes, the
-    /// number of its intervals, and the intervals. The only error is `Memory`: the vector lacks the room and cannot grow.
-    /// It leaves the vector as it was.
+    /// number of its intervals, and the intervals.
+    ///
+    /// Clauses:
+    /// - `ok`, `full`, `err`: the encoding, or the text, by the least intervals is appended; the only error is
+    ///   `Memory`, only without room, and leaves what was there
     pub fn encode(&self, out: &mut Vec<u8>) -> Result<(), GtidFault>
         ensures ok { OnOk result (AppendsEncoding self.now out.old.items out.new.items) }
         ensures err { OnErr result ((result ≡ Err GtidFault.Memory)
@@ -200,6 +222,10 @@ impl GtidSet {
     /// - `Memory` if an allocation was refused, after a source whose first interval is lawful.
     ///
     /// For one interval `Number` is reported before `Interval`, and `Interval` before `Order`.
+    ///
+    /// Clauses:
+    /// - `found`, `length`, `only`, `fault`, `memory`: the set of the bytes, exactly where there is one; otherwise the
+    ///   first fault
     pub fn decode(alloc: Global, bytes: &[u8]) -> Result<(GtidSet, usize), GtidFault>
         ensures length { IfOk result (λ found. found.1 ≤ length bytes.now) }
         ensures found { IfOk result (λ found. IsEncoding found.0 (take found.1 bytes.now)) }
@@ -225,6 +251,9 @@ impl GtidSet {
     /// - `Number` or `Interval` for the first interval that is wrong: a number outside 1 to 2^63 - 2, or otherwise a
     ///   second number below the first.
     /// - `Memory` if an allocation was refused, only for a text of this form that is neither empty nor only blanks.
+    ///
+    /// Clauses:
+    /// - `found`, `only`, `fault`, `memory`: the set of the text, exactly where there is one; otherwise the first fault
     pub fn parse(alloc: Global, text: &str) -> Result<GtidSet, GtidFault>
         ensures found { IfOk result (IsRead text.now) }
         ensures fault { IfErr result (λ fault. (fault ≡ GtidFault.Memory)
@@ -243,7 +272,11 @@ impl GtidSet {
     }
 
     /// The set of all GTIDs that are in at least one span. The spans may come in any order, overlap and touch; if they
-    /// ascend it takes linear time. The only error is `Memory`, which comes only if there is a span.
+    /// ascend it takes linear time.
+    ///
+    /// Clauses:
+    /// - `ok`, `err`, `some`: the set of a list of spans; the only error is `Memory`, which comes only if there is a
+    ///   span
     pub fn of_spans(alloc: Global, spans: Vec<Span>) -> Result<GtidSet, GtidFault>
         requires { AllByRecursion IsLawfulSpan spans.items }
         ensures ok { IfOk result (Covers spans.items) }
@@ -255,8 +288,9 @@ impl GtidSet {
     }
 
     /// Appends the text of the set: the sources in lower case and in the order of their bytes, separated by commas,
-    /// each with its least intervals, `:n` for one number and `:n-m` for more. The only error is `Memory`: the string
-    /// lacks the room and cannot grow. It leaves the text as it was.
+    /// each with its least intervals, `:n` for one number and `:n-m` for more.
+    ///
+    /// Clauses: as [`GtidSet::encode`]
     pub fn print(&self, out: &mut String) -> Result<(), GtidFault>
         ensures ok { OnOk result (AppendsText self.now (string_bytes out.old)
             (string_bytes out.new)) }

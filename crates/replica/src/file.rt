@@ -48,6 +48,10 @@ pub enum Unopened<D: Disk> {
 /// `start` stands for what the files held before: the clauses say of each content of them what follows from it. They say
 /// nothing of which file the path names, and of a file that another program writes. `expected` is how many bytes are about
 /// to be written, as far as is known: the more, the more pages are kept in memory, from 4 to 16 MiB.
+///
+/// Clauses:
+/// - `opens`, `entered`, `leaves`: the store holds what the files held, and a crash leaves it
+/// - `turned`, `memory`: where a database is refused, why, and that it is left as it was; `:memory:` is refused
 pub fn open_file<P: Start>(
     rt: &HostRuntime,
     path: &str,
@@ -92,7 +96,11 @@ pub fn open_file<P: Start>(
     }
 }
 
-/// Closes a store and its files: the WAL file is copied into the database file. An error comes with what is left of them.
+/// Closes a store and its files: the WAL file is copied into the database file.
+///
+/// Clauses:
+/// - `copied`, `err`: if the disks are clean, the last commit is in the database file; an error comes with what is left
+///   of the files
 pub fn close_file<D: Disk + Drop>(
     store: Store<FileStore<D>>,
 ) -> Result<Files<D>, (Error, FileStore<D>)>

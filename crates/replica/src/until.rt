@@ -158,6 +158,8 @@ impl<W: Observer> Observer for Until<W> {
         goes_on
     }
 
+    /// Clauses:
+    /// - an observer that waits for a set is done exactly if nothing of it is missing
     fn is_done(&self) -> bool {
         let Some(missing) = &self.missing else {
             return false;

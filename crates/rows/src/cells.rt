@@ -71,7 +71,11 @@ pub fn write_first_cells(row: &ImageRef<'_>, most: usize, out: &mut Vec<u8>) -> 
     Ok(())
 }
 
-/// Writes the line of a row: its table, the number of its copies, and its cells.
+/// Writes the line of a row.
+///
+/// Clauses:
+/// - where it is done, an output whose contract gives its bytes has the line of the row after what it had: the name of
+///   the table, the number of copies, and the cells (`specs/RowText.antt`)
 pub fn write_row<W: Write>(
     schema: &[u8],
     table: &[u8],

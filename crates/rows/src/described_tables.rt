@@ -16,7 +16,9 @@ pub struct DescribedTables {
 }
 
 impl DescribedTables {
-    /// The tables of a description.
+    /// The tables of the description, in some order.
+    ///
+    /// Clauses: the above.
     pub fn new(description: Description) -> DescribedTables
         ensures { IsPermutation description.tables.items result.tables.items }
     {
@@ -41,6 +43,9 @@ impl DescribedTables {
     }
 
     /// The table of this name in this schema, if it is described. One that is not is looked for in all of them.
+    ///
+    /// Clauses:
+    /// - `found`, `none`: a table of this schema and this name; none exactly where none of them has these names
     pub fn find(&self, schema: &[u8], table: &[u8]) -> Option<&DescribedTable>
         ensures found { IfSome result (λ found. IsOfName schema.now table.now found.now) }
         ensures none { IfNone result (find (is_named schema.now table.now) self.now.tables.items

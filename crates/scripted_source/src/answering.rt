@@ -102,14 +102,17 @@ fn send_last(once: bool, sequence: u8, out: &mut Vec<u8>) -> Result<u8, ForgeFau
     }
 }
 
-/// What a source with this history sends in reply to a dump command, the payload `request`: a format description, then
-/// each script whose GTID is not in the command's set, in the order of the history, and then an EOF, if the command
-/// asks for one. The first packet has the sequence id 1.
+/// What a source with this history sends in reply to a dump command, the payload `request`. The first packet has the
+/// sequence id 1.
 ///
-/// `Request` if the payload is not a dump command or its set is not an encoded set. Otherwise the first script that
-/// would be sent and cannot be is reported: as `Unfit` with its index, if a part of it has cells that are not of its
-/// table's types, or a table that cannot be encoded; as `TooLarge`, if an event of it is longer than a payload may be.
-/// `Memory` if an allocation was refused.
+/// `Unfit`, with the script's index, if a part of it has cells that are not of its table's types, or a table that
+/// cannot be encoded; `TooLarge` if an event of it is longer than a payload may be.
+///
+/// Clauses:
+/// - `ok`: the bytes are a format description, the events of each script whose GTID the command lacks, in order, and,
+///   if it asks for it, an EOF
+/// - `err`: `Request` exactly if the payload is no such command or its set is not an encoded set; `Unfit` or `TooLarge`
+///   for the first script that cannot be sent; or `Memory`
 pub fn answer(alloc: Global, history: &[Script], request: &[u8]) -> Result<Vec<u8>, ForgeFault>
     ensures ok { IfOk result (λ bytes. IsAnswer
         (script_values history.now) request.now bytes.items) }

@@ -103,7 +103,9 @@ fn check_commands(alloc: Global, bytes: &[u8]) -> Result<GtidSet, ForgeFault>
 /// The set of the dump command in what a replica sent: the packets of a response, of the query for events without
 /// checksums, and of the command, with nothing after them. The user and the answer to the scramble are not checked.
 ///
-/// `Request` if the bytes are not such packets; otherwise the only error is `Memory`.
+/// Clauses:
+/// - `found`, `only`, `err`: the set is that of the dump command exactly if the bytes are a response, the query and the
+///   command, else `Request`; or `Memory`
 pub fn check(alloc: Global, bytes: &[u8]) -> Result<GtidSet, ForgeFault>
     ensures found { IfOk result (AreSent bytes.now) }
     ensures only { (executed : Ids) → AreSent bytes.now executed

@@ -21,8 +21,11 @@ const CAPABILITIES: u32 = 0x0008_a205;
 /// An OK without rows, insert id and warnings, in autocommit.
 const OK: &[u8] = &[packet_header::OK, 0, 0, AUTOCOMMIT as u8, 0, 0, 0];
 
-/// A greeting with this scramble, the OK to the login and the OK to the query: what a source sends before the dump
-/// command. The only error is `Memory`.
+/// What a source sends before the dump command.
+///
+/// Clauses:
+/// - `ok`, `err`: the bytes are a greeting with the scramble and two OKs, to the login and to the query; the only error
+///   is `Memory`
 pub fn opening(alloc: Global, scramble: &[u8; 20]) -> Result<Vec<u8>, ForgeFault>
     ensures ok { IfOk result (λ bytes. IsOpening scramble.now bytes.items) }
     ensures err { OnErr result (result ≡ Err Memory) }

@@ -15,9 +15,12 @@ pub struct Reading {
     pub fault: Option<WireFault>,
 }
 
-/// The reading of a stream that comes in these pieces, from the id 0 on, up to its end or its fault. It proves, from the
-/// clauses of `step` alone, that this is the stream's one reading: its payloads, and after them its fault if there is
-/// one. The only error is `Memory`.
+/// The reading of a stream that comes in these pieces, from the id 0 on, up to its end or its fault: its payloads, and
+/// after them its fault if there is one.
+///
+/// Clauses:
+/// - `whole`, `sequence`, `too_large`, `only`, `err`: the stream's one reading, by the clauses of `wire` alone; the
+///   only error is `Memory`
 pub fn payloads(alloc: Global, limit: usize, pieces: &[&[u8]]) -> Result<Reading, WireFault>
     requires { limit ≤ largest_payload }
     ensures whole { IfOk result (λ read. IfNone read.fault ((id : ℕ) × (held : List ℕ)

@@ -105,6 +105,9 @@ impl<'a> Stream<'a> {
 impl<'a> Read for Stream<'a> {
     ghost remaining = { λ s. Some s.left.now };
 
+    /// Clauses:
+    /// - `bound`, `bytes`, `apart`, `counted`: a read gives the next bytes, a write adds some; neither changes the
+    ///   other's, nor how many have failed
     fn read(&mut self, buf: &mut [u8]) -> io::Result<usize>
         ensures bound { ReadsAtMost result buf.new }
         ensures bytes { ReadConsumes (Some self.old.left.now)
@@ -127,6 +130,7 @@ impl<'a> Read for Stream<'a> {
 impl<'a> Write for Stream<'a> {
     ghost contents = { λ s. Some s.written.items };
 
+    /// Clauses: as [`Stream::read`]
     fn write(&mut self, buf: &[u8]) -> io::Result<usize>
         ensures bound { WritesAtMost result buf.now }
         ensures bytes { WriteAppends (Some self.old.written.items)

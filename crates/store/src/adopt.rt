@@ -43,15 +43,16 @@ fn replace<S: Alter>(
 }
 
 impl<S: Alter> Store<S> {
-    /// Adds a set of GTIDs to the executed set, in one commit. The rows stay as they are: it is for a database whose
-    /// rows contain these transactions already, as those of a backup. If all of them are in the executed set already, no
-    /// statement is run and no memory is taken.
+    /// Adds a set of GTIDs to the executed set, in one commit. It is for a database whose rows contain these
+    /// transactions already, as those of a backup. If all of them are in the executed set already, no statement is run
+    /// and no memory is taken.
     ///
-    /// The faults:
-    /// - `Database` if the database failed, and `Memory` if an allocation was refused. The executed set is as before,
-    ///   and so is the database if the connection is still open. From now on this call, `apply`, `count` and `list`
-    ///   answer `Broken`. After `Database` a crash may leave the database with the set or without it.
-    /// - `Broken` after an earlier failure.
+    /// The faults are `Database` if the database failed, `Memory` if an allocation was refused, and `Broken`, as of
+    /// [`Store::apply`].
+    ///
+    /// Clauses:
+    /// - `adopts`, `known`, `shut`, `broken`, `crash`, `rest`, `fault`: the executed set is its union with the given
+    ///   one, and the rows stay; otherwise as `apply`
     pub fn adopt(&mut self, gtids: &GtidSet) -> Result<(), StoreFault>
         ensures adopts { HasCleanDisk (database S.Store self.new) → (content : Content)
             → Holds S.Store self.old content → Adopts S.Store content gtids.now self.old self.new

@@ -75,19 +75,20 @@ fn breaks(answer: &Result<Applied, StoreFault>) -> bool
 }
 
 impl<S: Alter> Store<S> {
-    /// Applies a transaction of the source: makes its changes in order and adds its GTID to the executed set, all or
-    /// nothing. Changes of tables that the filter leaves out are skipped.
+    /// Applies a transaction of the source, all or nothing. Changes of tables that the filter leaves out are skipped.
     ///
-    /// - `Done`: the changes were made, and the GTID was added.
-    /// - `Repeat`: the GTID was in the set already. No statement was run, and no memory was taken.
+    /// A `Repeat` runs no statement and takes no memory. After `NoSuchRow` and `CountFull` the store can be used
+    /// further. `Database` comes if the database failed, and `Memory` if an allocation was refused: the executed set is
+    /// as before, and so is the database if the connection is still open; from now on this call, `adopt`, `count` and
+    /// `list` answer `Broken`.
     ///
-    /// The faults:
-    /// - `NoSuchRow` and `CountFull` have the index of the first change that cannot be made. Nothing has changed, and
-    ///   the store can be used further.
-    /// - `Database` if the database failed, and `Memory` if an allocation was refused. The executed set is as before,
-    ///   and so is the database if the connection is still open. From now on this call, `adopt`, `count` and `list`
-    ///   answer `Broken`. After `Database` a crash may leave the database with the transaction or without it.
-    /// - `Broken` after one of these two.
+    /// Clauses:
+    /// - `applies`, `shut`, `fault`: `Done`: the changes that the filter admits are made in order, and the GTID is
+    ///   executed. `Repeat`: nothing changes. `NoSuchRow`, `CountFull`: the place of the first change that cannot be
+    ///   made, and nothing changes. `Database`, `Memory`: it was not executed yet
+    /// - `known`, `broken`, `crash`: a GTID of the set is `Repeat` always; after a failure each call is `Broken`; a
+    ///   crash leaves the old state or, after `Done` or `Database`, the new one
+    /// - `rest`: what is kept whatever it answers (`KeepsRest`): names, schema, what lies beside
     pub fn apply(&mut self, delivery: &Delivery) -> Result<Applied, StoreFault>
         ensures applies { HasCleanDisk (database S.Store self.new) → (content : Content)
             → Holds S.Store self.old content → Applies S.Store content

@@ -16,10 +16,16 @@ use gather::Image;
 use sqlite::Alter;
 
 impl<S: Alter> Store<S> {
-    /// The number of copies of a row in a table, at most 2^63 - 1; 0 if it is not there. Nothing changes, and the store
-    /// can be used further.
+    /// The number of copies of a row in a table, at most 2^63 - 1; 0 if it is not there. The store can be used further.
     ///
     /// The faults: `Database` if the database failed, and `Broken` after an earlier failure of `apply` or `adopt`.
+    ///
+    /// Clauses:
+    /// - `counts`, `fits`: exact counts
+    /// - `unchanged`, `following`, `crash`, `crash_beside`, `clean`: the database is as it was, and a crash leaves it
+    ///   so
+    /// - `shut`, `broken`, `fault`: after a failure each call is `Broken`; over a shut connection `Database` is
+    ///   answered
     pub fn count(&mut self, schema: &[u8], table: &[u8], image: &Image) -> Result<u64, StoreFault>
         ensures counts { HasCleanDisk (database S.Store self.new) → (content : Content)
             → Holds S.Store self.old content → Counts S.Store content

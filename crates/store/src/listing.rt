@@ -184,13 +184,16 @@ fn list_held<S: Alter, V: Visitor>(
 }
 
 impl<S: Alter> Store<S> {
-    /// Hands all rows to the visitor, each once with the number of its copies, in ascending order of the bytes of schema,
-    /// table and image, as they are read from the database. No row is kept, so the memory does not grow with their number.
-    /// Nothing changes, and the store can be used further.
+    /// Hands all rows to the visitor, each once with the number of its copies, in ascending order of the bytes of
+    /// schema, table and image, as they are read from the database. No row is kept, so the memory does not grow with
+    /// their number. The store can be used further.
     ///
     /// An error of the visitor ends the list. The faults of the store end it too, after the rows that were read before:
     /// `Database` if the database failed, and `Broken`, before the first row, after an earlier failure of `apply` or
     /// `adopt`.
+    ///
+    /// Clauses: as [`Store::count`], and:
+    /// - `lists`: all rows once, in order, to a visitor
     pub fn list<V: Visitor>(&mut self, visitor: &mut V) -> Result<(), ListError<V::Error>>
         ensures lists { HasCleanDisk (database S.Store self.new) → (content : Content)
             → Holds S.Store self.old content → Lists S.Store V.row_gives content self.new

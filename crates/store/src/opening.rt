@@ -222,10 +222,9 @@ fn has_any(tables: Tables) -> bool
 }
 
 impl<S: Alter> Store<S> {
-    /// Opens a database with the filter that it was made for. A new database, which has none of the store's
-    /// tables, gets them in one transaction, and is made for all tables. A database of layout 1 is migrated in one
-    /// transaction. Other tables, their indexes, and views stay as they are; an index of others on `executed` goes with that
-    /// table in a migration.
+    /// Opens a database with the filter that it was made for. A new database, which has none of the store's tables,
+    /// gets them in one transaction, and is made for all tables. A database of layout 1 is migrated in one transaction.
+    /// An index of others on `executed` goes with that table in a migration.
     ///
     /// Each fault comes with the connection. If that is still open, the database is as it was.
     /// - `Damaged` if a table is missing, or the rows break the rules of their layout.
@@ -233,6 +232,18 @@ impl<S: Alter> Store<S> {
     /// - `Database` if the database failed, and `Memory` if an allocation was refused.
     ///
     /// The connection must be in autocommit mode (see `is_autocommit`).
+    ///
+    /// Clauses:
+    /// - `opens`: the store holds what the database stood for; one without our tables stands for nothing, and one of
+    ///   layout 1 is migrated
+    /// - `turned`, `headless`, `fault`: a refusal has its reason, `Damaged`, `Layout` or `Follows`, and nothing has
+    ///   changed
+    /// - `beside`, `unchanged`: other tables, their indexes and rows, views and triggers stay (`LiesBeside`); opening
+    ///   layout 2 changes nothing
+    /// - `crash`, `left`, `reopens`, `leaves`: a crash leaves what it could leave before, or the same content in layout
+    ///   2; over what a crash left of a content the store holds that content
+    /// - `clean`, `autocommit`: a disk that is clean afterwards was so before; a refused connection is in no
+    ///   transaction
     pub fn open(alloc: Global, conn: Connection<S>) -> Result<Store<S>, (StoreFault, Connection<S>)>
         requires { conn.in_transaction ≡ false }
         ensures { IsOpenedFor S.Store None conn result }
@@ -243,6 +254,8 @@ impl<S: Alter> Store<S> {
     /// Like [`Store::open`], with a filter, for which a new database is made. An existing database must have been made
     /// for the same filter, which for layout 1 admits all tables; otherwise the fault is `Follows`. `Damaged` and `Layout`
     /// are reported before `Follows`.
+    ///
+    /// Clauses: as [`Store::open`]
     pub fn open_only(
         alloc: Global,
         conn: Connection<S>,
@@ -255,6 +268,8 @@ impl<S: Alter> Store<S> {
     }
 
     /// Like [`Store::open_only`] with a filter, and like [`Store::open`] without one.
+    ///
+    /// Clauses: as [`Store::open`]
     pub fn open_for(
         alloc: Global,
         mut conn: Connection<S>,

@@ -74,10 +74,17 @@ impl Assembler {
 
     /// Consumes bytes up to the end of the current payload, or all of them.
     ///
-    /// `Sequence` and `TooLarge` are reported as soon as the four bytes of the wrong header have come, `Sequence` if the
-    /// header is wrong in both ways. `Memory` is reported if a right header that announces bytes is complete with these
-    /// bytes, and the room for them cannot be allocated. After any of them every later step answers `Ended`, and nothing
-    /// more is promised of the reader.
+    /// `Sequence` and `TooLarge` are reported as soon as the four bytes of the wrong header have come, `Sequence` if
+    /// the header is wrong in both ways. After any refusal nothing more is promised of the reader.
+    ///
+    /// Clauses:
+    /// - `payload`, `used`, `length`, `progress`: a payload is handed out only where the bytes held and those used are
+    ///   its packing from the expected id, within the limit; no byte after it is used
+    /// - `unfinished`, `held`: without a payload all bytes are used and held; no header among them is wrong, and no
+    ///   prefix of them is a payload
+    /// - `sequence`, `too_large`: a fault is that of the first wrong header
+    /// - `memory`, `ended`, `ok`, `err`: `Memory` comes only where a right header that announces bytes is complete;
+    ///   after any refusal each later step is `Ended`
     pub fn step(&mut self, bytes: &[u8]) -> Result<Step, WireFault>
         // A payload: the bytes held and those used are its packets, and the reader holds nothing.
         ensures used { IfOk result (λ step. step.used ≤ length bytes.now) }

@@ -7,11 +7,14 @@ use crate::fault::WireFault;
 use crate::lenenc::{EIGHT_BYTES, MOST_IN_ONE_BYTE, THREE_BYTES, TWO_BYTES};
 use byteorder::{ByteOrder, LittleEndian};
 
-/// Reads the length-encoded integer at the front of the bytes: its value, and the 1, 3, 4 or 9 bytes
-/// that it takes. The encoding need not be the shortest, and bytes may follow it.
+/// Reads the length-encoded integer at the front of the bytes: its value, and the 1, 3, 4 or 9 bytes that it takes. The
+/// encoding need not be the shortest, and bytes may follow it.
 ///
-/// `None` if the bytes do not begin with such an integer: it is cut short, or the first byte is 0xFB or
-/// 0xFF.
+/// `None` if it is cut short, or the first byte is 0xFB or 0xFF.
+///
+/// Clauses:
+/// - `found`, `length`, `none`: the value and the length of a length-encoded integer at the front, of any width; none
+///   only where there is none
 pub fn read_int(bytes: &[u8]) -> Option<(u64, usize)>
     ensures length { IfSome result (λ found. found.1 ≤ length bytes.now) }
     ensures found { IfSome result (λ found. IsLengthEncoded found.0 (take found.1 bytes.now)) }
@@ -34,8 +37,10 @@ pub fn read_int(bytes: &[u8]) -> Option<(u64, usize)>
 
 /// Appends the shortest length-encoded integer of the value.
 ///
-/// The only error is `Memory`: the vector lacks the room and cannot grow. It leaves the vector as it
-/// was.
+/// Clauses:
+/// - `ok`, `err`, `full`: the shortest spelling, or by [`write_payload`] the packing, is appended; an error leaves the
+///   vector as it was, and `Memory` comes only without room
+/// - `capacity`: the vector's room does not shrink
 pub fn write_int(value: u64, out: &mut Vec<u8>) -> Result<(), WireFault>
     ensures ok { OnOk result (out.new.items ≡ out.old.items ++ length_encoded value) }
     ensures err { OnErr result ((result ≡ Err WireFault.Memory) × (out.new.items ≡ out.old.items)) }

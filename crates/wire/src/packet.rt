@@ -56,11 +56,11 @@ fn push_packets(sequence: u8, payload: &[u8], out: &mut Vec<u8>) -> u8
     id.wrapping_add(1)
 }
 
-/// Appends the packets of the payload, the first with the given sequence id, and returns the id that the
-/// next packet must have.
+/// Appends the packets of the payload, the first with the given sequence id, and returns the id that the next packet
+/// must have. `TooLarge` if the payload is longer than [`LARGEST_PAYLOAD`].
 ///
-/// `TooLarge` if the payload is longer than [`LARGEST_PAYLOAD`]; `Memory` if the vector lacks the room
-/// for the packets and cannot grow. Either leaves the vector as it was.
+/// Clauses: as [`write_int`], and:
+/// - `too_large`, `only`: `TooLarge` exactly above 1 GiB; otherwise `Memory`
 pub fn write_payload(sequence: u8, payload: &[u8], out: &mut Vec<u8>) -> Result<u8, WireFault>
     ensures ok { IfOk result (λ next. AppendsPacking sequence payload.now out.old.items
         out.new.items next) }

@@ -10,7 +10,7 @@ import re
 import sys
 
 root = os.path.abspath(sys.argv[1])
-WORDS = 51_500
+WORDS = 50_000
 FIRST_LINES, SENTENCE, LINES = 90, 25, 150
 PAGES = ('README.md', 'docs/**/*.md', 'crates/*/*.md', 'bench/*.md', 'proxy/*.md', 'samples/*.md', 'sinks/*.md')
 bad = []

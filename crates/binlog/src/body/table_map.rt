@@ -41,6 +41,8 @@ pub struct TableDef {
 
 impl TableDef {
     /// A table with these names and columns.
+    ///
+    /// Clauses: the above.
     pub fn new(schema: Vec<u8>, table: Vec<u8>, types: Vec<ColumnType>) -> TableDef
         ensures { result ≡ record { schema = schema; table = table; types = types } }
     {
@@ -52,6 +54,9 @@ impl TableDef {
     }
 
     /// The table map that gives the table this number.
+    ///
+    /// Clauses:
+    /// - `id`, `schema`, `table`, `columns`: with the same names and columns
     pub fn map(&self, id: u64) -> TableMap<'_>
         ensures id { result.id ≡ id }
         ensures schema { result.schema.now ≡ self.now.schema.items }
@@ -68,8 +73,10 @@ impl TableDef {
 }
 
 impl TableMap<'_> {
-    /// Copies the names and the column types, so that they outlive the event. The only error is `Memory`, which comes
-    /// only if a name has a byte or there is a column.
+    /// Copies the names and the column types. `Memory` comes only if a name has a byte or there is a column.
+    ///
+    /// Clauses:
+    /// - `ok`, `err`, `some`: the same names and columns, which outlive the payload; the only error is `Memory`
     pub fn copy(&self, alloc: Global) -> Result<TableDef, EventFault>
         ensures ok { IfOk result (λ copied. (copied.schema.items ≡ self.now.schema.now)
             × (copied.table.items ≡ self.now.table.now)
@@ -168,8 +175,11 @@ pub struct ColumnPlace<'a> {
 }
 
 impl<'a> ColumnPlace<'a> {
-    /// Reads the names in a table map and the number of its columns, and finds the column whose type code is at the
-    /// offset `at` in the event. `None` if the names or the number of columns cannot be read. Nothing after that number is read.
+    /// Reads the names in a table map and the number of its columns, and nothing after that.
+    ///
+    /// Clauses:
+    /// - `names`, `column`, `other`, `none`: the table that they name, and the column whose type code is at the offset
+    ///   `at` in the event, if one is; none if they cannot be read
     pub fn find(event: &'a [u8], at: usize) -> Option<ColumnPlace<'a>>
         ensures names { IfSome result (λ place. (place.schema.now ≡ named_schema event.now)
             × (place.table.now ≡ named_table event.now)) }

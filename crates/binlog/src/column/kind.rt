@@ -62,7 +62,9 @@ pub struct ColumnType {
 }
 
 impl ColumnType {
-    /// The type, if its metadata is in range.
+    /// The type, exactly where its metadata is in range.
+    ///
+    /// Clauses: `lawful`, `kind`: the above.
     pub fn new(kind: ColumnKind) -> Option<ColumnType>
         ensures lawful { IsSome result ↔ IsTrue (is_lawful kind) }
         ensures kind { IfSome result (λ column. column.kind ≡ kind) }

@@ -27,6 +27,9 @@ pub fn minus<R: AllocGlobal, W: Write>(
 }
 
 /// The text of a set without the members of another.
+///
+/// Clauses:
+/// - the text that `mrep minus` prints is that of the difference of the two sets
 fn difference<'a>(alloc: Global, left: &str, right: &str) -> Result<String, ArgumentFault<'a>>
     ensures { IfOk result (λ text. (x y : Ids) → IsRead left.now x → IsRead right.now y
         → AppendsText (set.difference x y) [] (string_bytes text)) }

@@ -104,10 +104,14 @@ impl Listing {
         }
     }
 
-    /// Consumes bytes of a piece of the stream, up to the end of the current payload or all of them, and returns how many
-    /// were consumed, and the payload if it is complete now. The rest of the piece is to be fed next.
+    /// Consumes bytes of a piece of the stream, up to the end of the current payload or all of them, and returns how
+    /// many were consumed, and the payload if it is complete now. The rest of the piece is to be fed next.
     ///
     /// After a fault the listing has ended.
+    ///
+    /// Clauses:
+    /// - `stands`, `within`, `progress`, `all`: for any pieces: the stream so far is the packings of payloads, each
+    ///   with an entry that has its offset, its first sequence id and its bytes, and then bytes that are no payload yet
     pub fn feed(&mut self, piece: &[u8]) -> Result<(usize, Option<PayloadEntry>), WireFault>
         ensures within { IfOk result (λ fed. fed.0 ≤ length piece.now) }
         ensures progress { 0 < length piece.now → IfOk result (λ fed. 0 < fed.0) }
@@ -136,7 +140,9 @@ impl Listing {
         Ok((piece.len(), None))
     }
 
-    /// How many bytes of the current payload have come.
+    /// The number of bytes after the last whole payload.
+    ///
+    /// Clauses: the above.
     pub fn rest(&self) -> u64
         ensures { (stream : List ℕ) (entries : List PayloadEntry) → ListsSoFar self.now stream entries
             → result ≡ length (held_bytes self.now) }

@@ -75,6 +75,8 @@ pub enum Failure {
 
 impl FailureKind {
     /// The exit status.
+    ///
+    /// Clauses: as [`Failure::status`]
     fn status(self) -> u8
         ensures status { result ≡ kind_status self }
         ensures range { result ≤ MEMORY }
@@ -89,6 +91,8 @@ impl FailureKind {
 }
 
 /// Of a file, a host or the output.
+///
+/// Clauses: as [`database_kind`]
 fn kind_of(cause: &io::Error) -> FailureKind
     ensures status { IsFileStatus cause.now (kind_status result) }
 {
@@ -100,6 +104,9 @@ fn kind_of(cause: &io::Error) -> FailureKind
 }
 
 /// Of opening a store, or of reading its rows.
+///
+/// Clauses:
+/// - `status`: the status of the kind by its cause
 fn database_kind(cause: StoreFault) -> FailureKind
     ensures status { kind_status result ≡ database_status cause }
 {
@@ -116,6 +123,8 @@ fn database_kind(cause: StoreFault) -> FailureKind
 }
 
 /// Of a file that is no description of columns.
+///
+/// Clauses: as [`database_kind`]
 fn description_kind(fault: DescriptionFault) -> FailureKind
     ensures status { kind_status result ≡ description_status fault.fault }
 {
@@ -126,6 +135,8 @@ fn description_kind(fault: DescriptionFault) -> FailureKind
 }
 
 /// Of a file that is no first copy of tables, or cannot be read.
+///
+/// Clauses: as [`database_kind`]
 fn copy_kind(fault: &CopyFault) -> FailureKind
     ensures status { IsCopyStatus fault.now (kind_status result) }
 {
@@ -137,6 +148,8 @@ fn copy_kind(fault: &CopyFault) -> FailureKind
 }
 
 /// Of words that are no command line.
+///
+/// Clauses: as [`database_kind`]
 fn words_kind(error: &clap::Error) -> FailureKind
     ensures status { IsWordsStatus error.now (kind_status result) }
 {
@@ -148,6 +161,8 @@ fn words_kind(error: &clap::Error) -> FailureKind
 }
 
 /// Of an argument.
+///
+/// Clauses: as [`database_kind`]
 fn argument_kind(fault: &ArgumentFault<'_>) -> FailureKind
     ensures status { kind_status result ≡ argument_status fault.now }
 {
@@ -158,6 +173,8 @@ fn argument_kind(fault: &ArgumentFault<'_>) -> FailureKind
 }
 
 /// Of a description of which no tables are made.
+///
+/// Clauses: as [`database_kind`]
 fn tables_kind(fault: &TablesFault) -> FailureKind
     ensures status { kind_status result ≡ tables_status fault.now }
 {
@@ -168,6 +185,8 @@ fn tables_kind(fault: &TablesFault) -> FailureKind
 }
 
 /// Of a first copy that may not be loaded.
+///
+/// Clauses: as [`database_kind`]
 fn unloadable_kind(why: &Unloadable) -> FailureKind
     ensures status { kind_status result ≡ unloadable_status why.now }
 {
@@ -179,6 +198,10 @@ fn unloadable_kind(why: &Unloadable) -> FailureKind
 
 impl Failure {
     /// The exit status.
+    ///
+    /// Clauses:
+    /// - `status`, `range`: 1 for data that is refused; 2 for a mistake in the arguments; 3 for a file, a host or the
+    ///   database; 4 for memory
     pub fn status(&self) -> u8
         ensures status { IsStatus self.now result }
         ensures range { result ≤ MEMORY }
@@ -228,6 +251,8 @@ pub fn unusable(alloc: Global, name: &str, why: &str) -> Failure
 }
 
 /// The file or the host of this name could not be opened, read or written.
+///
+/// Clauses: as [`of_database`]
 #[tactic(auto, using(crate::proofs::Told::tells))]
 pub fn of_system(alloc: Global, name: &str, cause: io::Error) -> Failure
     ensures status { Tells (IsFileStatus cause) result }
@@ -236,6 +261,10 @@ pub fn of_system(alloc: Global, name: &str, cause: io::Error) -> Failure
 }
 
 /// The database file of this name could not be opened, or the database failed.
+///
+/// Clauses:
+/// - `status`: that of its cause, or it is `Failure::Memory`, which comes only where memory ran out for the message:
+///   tested only
 #[tactic(auto, using(crate::proofs::Told::tells))]
 pub fn of_database(alloc: Global, name: &str, cause: StoreFault) -> Failure
     ensures status { Tells (λ status. status ≡ database_status cause) result }
@@ -289,6 +318,8 @@ pub fn of_damage(alloc: Global, name: &str, damage: &Damage) -> Failure
 }
 
 /// The words are no command line, and this is to be typed, if that is known.
+///
+/// Clauses: as [`of_database`]
 #[tactic(auto, using(crate::proofs::Told::tells))]
 pub fn of_words(alloc: Global, error: &clap::Error, tip: Option<&str>) -> Failure
     ensures status { Tells (IsWordsStatus error.now) result }
@@ -307,6 +338,8 @@ fn write_words(error: &clap::Error, tip: Option<&str>, message: &mut Vec<u8>) ->
 }
 
 /// The value of an argument is none.
+///
+/// Clauses: as [`of_database`]
 #[tactic(auto, using(crate::proofs::Told::tells))]
 pub fn of_argument(alloc: Global, fault: ArgumentFault<'_>) -> Failure
     ensures status { Tells (λ status. status ≡ argument_status fault.entry) result }
@@ -330,6 +363,8 @@ pub fn over_argument<'a, T: Drop>(
 }
 
 /// The file of this name, which has this text, is no description of columns.
+///
+/// Clauses: as [`of_database`]
 #[tactic(auto, using(crate::proofs::Told::tells))]
 pub fn of_description(alloc: Global, name: &str, text: &[u8], fault: DescriptionFault) -> Failure
     ensures status { Tells (λ status. status ≡ description_status fault.fault) result }
@@ -370,6 +405,8 @@ fn has_head(text: &[u8]) -> bool {
 }
 
 /// No tables are made of the description in the file of this name.
+///
+/// Clauses: as [`of_database`]
 #[tactic(auto, using(crate::proofs::Told::tells))]
 pub fn of_tables(alloc: Global, name: &str, fault: &TablesFault) -> Failure
     ensures status { Tells (λ status. status ≡ tables_status fault.now) result }
@@ -388,6 +425,8 @@ fn write_tables(name: &str, fault: &TablesFault, message: &mut Vec<u8>) -> io::R
 }
 
 /// The file of this name is no first copy of tables, or cannot be read.
+///
+/// Clauses: as [`of_database`]
 #[tactic(auto, using(crate::proofs::Told::tells))]
 pub fn of_copy(alloc: Global, name: &str, fault: &CopyFault) -> Failure
     ensures status { Tells (IsCopyStatus fault.now) result }
@@ -396,6 +435,8 @@ pub fn of_copy(alloc: Global, name: &str, fault: &CopyFault) -> Failure
 }
 
 /// A first copy of tables may not be loaded into the database of this name.
+///
+/// Clauses: as [`of_database`]
 #[tactic(auto, using(crate::proofs::Told::tells))]
 pub fn of_unloadable(alloc: Global, name: &str, why: &Unloadable) -> Failure
     ensures status { Tells (λ status. status ≡ unloadable_status why.now) result }

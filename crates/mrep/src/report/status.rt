@@ -25,7 +25,10 @@ fn status_of(reason: &Reason) -> u8
     }
 }
 
-/// The exit status of connections in order: that of the first that is not 0, or 0.
+/// The exit status of connections in order.
+///
+/// Clauses:
+/// - `status`, `range`: the first that is not 0, or 0
 fn first_status(ends: &[Ended]) -> u8
     ensures status { result ≡ first_status ends.now }
     ensures range { result ≤ MEMORY }
@@ -60,6 +63,10 @@ pub fn counted<'e>(ends: &'e [Ended], done: &Result<(), Failure>) -> &'e [Ended]
 }
 
 /// The first status of the connections that is not 0, otherwise that of any other failure.
+///
+/// Clauses:
+/// - `first`, `failed`, `range`: the first status that is not 0; a failure is answered only where each connection's
+///   status is 0
 pub fn status_after<E: Write>(
     ends: &[Ended],
     done: Result<(), Failure>,

@@ -95,7 +95,9 @@ fn first_left_open(
     None
 }
 
-/// The source of a copy that has begun and not ended, by an executed set; if there are several, of one of them.
+/// The source of a first copy that has begun by an executed set and not ended; if there are several, of one of them.
+///
+/// Clauses: `some`, `none`: the above.
 pub fn unfinished_copy(executed: &GtidSet) -> Option<[u8; 16]>
     ensures some { IfSome result (λ source. is_unfinished executed.now source ≡ true) }
     ensures none { IfNone result (NoneUnfinished executed.now) }

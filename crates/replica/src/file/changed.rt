@@ -36,6 +36,13 @@ pub struct ChangedFile<E, D: Disk> {
 /// ([`ChangeEnd::NotAdopted`]), nothing is reported, and no transaction is asked for.
 ///
 /// `start` stands for what the files held before (see [`open_file`]).
+///
+/// Clauses: as [`in_file`], and:
+/// - `changes`: the closed files hold what the set and the first of the transactions, each once, make of what they
+///   held; all of them, if the end says so
+/// - `noted`, `unreported`: what was reported leads from the content with the set to the one that the files hold; where
+///   the set was not added, nothing was reported
+/// - `asked`: it stops for the observer only if that has stopped, or waits for nothing
 pub fn change_file<P: Start, I: Deliveries + Drop, W: Observer>(
     rt: &HostRuntime,
     path: &str,

@@ -31,6 +31,11 @@ pub struct ClearedFile<D: Disk> {
 /// of these are in memory at once.
 ///
 /// `start` stands for what the files held before (see [`open_file`]).
+///
+/// Clauses: as [`in_file`], [`replay`], and:
+/// - `clears`: the closed files hold what they held, without the rows of the table if the end says so; what may not be
+///   done changes nothing, for the first reason in an order
+/// - `asked`: it stops for the observer only if that has stopped
 pub fn clear_file<P: Start, W: Observer>(
     rt: &HostRuntime,
     path: &str,

@@ -74,6 +74,10 @@ fn connect_and_follow<
 /// database is opened before anything is asked of the source, which is reached with its executed set.
 ///
 /// `start` stands for what the files held before (see [`open_file`]).
+///
+/// Clauses: as [`in_file`], [`replay`], and:
+/// - `follows`: the same as the headline, of following a source
+/// - `ends`: as `heeded` and `until` of [`replay`]
 pub fn follow_file<
     P: Start,
     T: Duplex + Drop,

@@ -39,6 +39,12 @@ pub struct LoadedFile<E, D: Disk> {
 /// the tables; and none of them has rows.
 ///
 /// `start` stands for what the files held before (see [`open_file`]).
+///
+/// Clauses: as [`in_file`], [`change_file`], and:
+/// - `loads`: the same as `changes` of [`change_file`], of a first copy; what may not be done changes nothing, for the
+///   first reason in an order
+/// - `notes`, `unreported`: what was reported leads from the content with the copy's set to the one that the files
+///   hold; where the set was not added, nothing was reported
 pub fn load_file<P: Start, I: Deliveries + Drop, W: Observer>(
     rt: &HostRuntime,
     path: &str,

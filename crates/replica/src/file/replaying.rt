@@ -46,6 +46,13 @@ pub struct Replayed<D: Disk> {
 /// as its connection has ended. Memory is allocated first: 64 KiB, and room for the ends.
 ///
 /// `start` stands for what the files held before (see [`open_file`]).
+///
+/// Clauses: as [`in_file`], and:
+/// - `replays`: the headline (`docs/THEOREMS.md`)
+/// - `noted`: what was reported leads from the one content to the other; if the observer had stopped before, nothing is
+///   applied
+/// - `heeded`, `until`: a connection is halted, or ended with `Until`, only for the observer; with `Until` the files
+///   hold the first content in which all that it waited for is executed
 pub fn replay<P: Start, R: Read + Drop, W: Observer>(
     rt: &HostRuntime,
     path: &str,

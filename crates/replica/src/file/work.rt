@@ -49,6 +49,11 @@ pub struct InFile<T, D: Disk> {
 /// Opens the database in a file, does something with its store, and closes it.
 ///
 /// `start` stands for what the files held before, and `expected` is how many bytes are about to be written (see [`open_file`]).
+///
+/// Clauses:
+/// - `works`: the closed files hold a content to which the work leads from what they held
+/// - `closing`, `turned`, `untouched`: where a database is refused, why, and that it is left as it was, with nothing
+///   done or reported; what files that were closed, or could not be, had held
 pub fn in_file<P: Start, K: Work>(
     rt: &HostRuntime,
     path: &str,

@@ -71,6 +71,12 @@ impl Session {
     ///
     /// The call that reaches the end of the connection returns `Ok`. After the end nothing is read, and the answer is
     /// `Stopped`.
+    ///
+    /// Clauses:
+    /// - `stands`, `stopped`, `after`: a session that has read the bytes b has then read b and the new bytes; after the
+    ///   end it reads nothing
+    /// - `config`, `keeps`, `may_end`, `room`: its settings, the tables that are followed and a store that has failed
+    ///   stay; it is not halted; until it ends it has room for so many bytes fewer
     pub fn feed<S: Alter>(&mut self, store: &mut Store<S>, bytes: &[u8]) -> Result<(), Stopped>
         // At whatever position the session stood over the store, it is now at the one with these bytes read too.
         ensures stands { HasCleanDisk (database S.Store store.new)
@@ -163,6 +169,10 @@ impl Session {
     }
 
     /// Returns the pending output: the bytes that are to be sent since the last call. It takes no memory.
+    ///
+    /// Clauses:
+    /// - `sent`: all is handed out that the payloads taken ask for
+    /// - `stands`, `config`, `end`, `ended`, `room`: all else is as it was
     pub fn take_out(&mut self) -> Vec<u8>
         ensures stands { (names : Names) (pos : Position) (is : Bool) (now : Content)
             → Stands self.old names pos is now

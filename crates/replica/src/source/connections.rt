@@ -57,6 +57,11 @@ fn read_connection<S: Alter>(config: &Config, store: &mut Store<S>, pieces: &[Ve
 
 /// Reads connections in order, each a list of pieces of its bytes, and returns how each ended. The room for the ends is
 /// allocated first, so that after `NoMemory` nothing was done.
+///
+/// Clauses:
+/// - `history`: content, and reason, offset and count of each end, are those of taking the connections in order
+/// - `keeps`, `may_end`, `untouched`: the tables that are followed and a store that has failed stay; no connection is
+///   halted; after `NoMemory` nothing was done
 pub fn run<S: Alter>(
     alloc: Global,
     config: &Config,

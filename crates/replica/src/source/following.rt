@@ -160,6 +160,11 @@ fn ended_with(session: Session, reason: Reason) -> Ended
 ///
 /// Every error of the stream is a failure, and so is a write that takes nothing of a non-empty slice; a read of no
 /// bytes is the end of the input. After a failure of the database, or when memory runs out, nothing more is sent.
+///
+/// Clauses:
+/// - `follows`, `failures`: end and content are those of exactly the bytes that were read, and the bytes written are
+///   what the payloads taken ask for; failures are reported exactly where one was counted
+/// - `going`, `keeps`: nothing halts the connection; the tables that are followed and a store that has failed stay
 pub fn follow<T: Duplex, S: Alter>(
     alloc: Global,
     stream: &mut Counted<T>,

@@ -41,6 +41,12 @@ pub fn read_some<R: Read>(reader: &mut R, piece: &mut [u8]) -> io::Result<usize>
 /// Reads one connection to its end: its first bytes, and then those that the reader gives, a piece at a time. It reads
 /// no further than the piece in which the connection ends. After an error of the reader, the store keeps what was
 /// applied before it.
+///
+/// Clauses:
+/// - `read`, `all`, `failed`: end and content are those of exactly the bytes that were read, which are all where the
+///   input has ended; those before an error did not end the connection
+/// - `keeps`, `may_end`, `piece`: what was reported leads from the content before to that afterwards; the connection is
+///   halted only if the observer has stopped; the piece is as long as before
 pub fn read_stream<R: Read, S: Alter, W: Observer>(
     config: Config,
     store: &mut Store<S>,
