@@ -7,7 +7,7 @@ use Rattle.wire.proofs.Cuts.{IsBytes, IsBytes-drop, drop_drop}
 use Rattle.std.proofs.Common.{◌≢◌, if◌then◌else◌, drop, Option, Some}
 use Rattle.std.specs.Prelude.{◌==◌, slice_index}
 use Rattle.wire.proofs.Cuts.{number_at_front, cut, after}
-use Rattle.feed.specs.Statements.{IsSentBy, IsTextOf, text_after}
+use Rattle.feed.specs.Statements.{IsSentBy, IsStatementText, text_after}
 
 pub is_sent_by : (bytes : List ℕ) → IsBytes bytes → 23 ≤ length bytes → IsSentBy (little_number 4 (drop 19 bytes)) bytes
 is_sent_by bytes fits long =
@@ -30,7 +30,7 @@ sent_by thread bytes is =
       ap (little_number 4) d ∙ little_number-reads_back 4 thread is.rest (omega (arith, is.fits)),
     )
 
-pub is_text_of : (bytes : List ℕ) → 20 ≤ length bytes → slice_index bytes 4 ≡ 29 → IsTextOf (drop 20 bytes) bytes
+pub is_text_of : (bytes : List ℕ) → 20 ≤ length bytes → slice_index bytes 4 ≡ 29 → IsStatementText (drop 20 bytes) bytes
 is_text_of bytes long is = record {
   head = take 20 bytes;
   bytes_are = cut 0 20 bytes;
@@ -38,7 +38,7 @@ is_text_of bytes long is = record {
   is_query = is;
 }
 
-pub text_is : (text bytes : List ℕ) → IsTextOf text bytes → (20 ≤ length bytes) × (drop 20 bytes ≡ text)
+pub text_is : (text bytes : List ℕ) → IsStatementText text bytes → (20 ≤ length bytes) × (drop 20 bytes ≡ text)
 text_is text bytes is = (
   omega (arith, ap length is.bytes_are, length-append is.head text, is.long),
   ap (drop 20) is.bytes_are ∙ after 20 0 is.head text is.long,

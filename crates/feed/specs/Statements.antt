@@ -18,7 +18,7 @@ pub record IsThreadOf (bytes : List ℕ) (known : Option ℕ) : Type 0 where
   pub only : (thread : ℕ) → IsSentBy thread bytes → known ≡ Some thread
 
 -- A ROWS_QUERY event has, after its header and a byte that is ignored, the text of a statement.
-pub record IsTextOf (text : List ℕ) (bytes : List ℕ) : Type 0 where
+pub record IsStatementText (text : List ℕ) (bytes : List ℕ) : Type 0 where
   pub head : List ℕ
   pub bytes_are : bytes ≡ head ++ text
   pub long : length head ≡ 20

@@ -7,7 +7,7 @@ ghost use Rattle.binlog.specs.EventView.{event_value};
 ghost use Rattle.binlog.specs.Rows.{RowsValue};
 ghost use Rattle.feed.specs.Seconds.{seconds_at};
 ghost use Rattle.feed.specs.Stamps.{AreSecondsOf, IsServerOf, IsCommitOf, may_take, is_said};
-ghost use Rattle.feed.specs.Statements.{IsThreadOf, IsTextOf, text_at};
+ghost use Rattle.feed.specs.Statements.{IsThreadOf, IsStatementText, text_at};
 
 use crate::seconds::Seconds;
 use crate::statements::{Texts, text_of_query, thread_of};
@@ -105,13 +105,13 @@ impl Stamps {
             self.new ≡ record self.old { xid = Some number } }
         ensures thread { event_value event.now ≡ begin → IsThreadOf bytes.now self.new.thread
             × (self.new ≡ record self.old { thread = self.new.thread }) }
-        ensures text { event_value event.now ≡ neutral → (text : List ℕ) → IsTextOf text bytes.now
+        ensures text { event_value event.now ≡ neutral → (text : List ℕ) → IsStatementText text bytes.now
             → OnOk result (text_at self.new.texts pending ≡ Some text) }
         ensures others { event_value event.now ≡ neutral → (self.new ≡ record self.old
             { texts = self.new.texts }) × ((n : ℕ) → n ≢ pending
             → text_at self.new.texts n ≡ text_at self.old.texts n) }
         ensures no_text { event_value event.now ≡ neutral → ((text : List ℕ)
-            → IsTextOf text bytes.now → ⊥) → self.new ≡ self.old }
+            → IsStatementText text bytes.now → ⊥) → self.new ≡ self.old }
         ensures kept { is_said (event_value event.now) ≡ false → self.new ≡ self.old }
         ensures memory { OnErr result (may_take (event_value event.now) ≡ true) }
     {
@@ -142,11 +142,11 @@ impl Stamps {
 
     /// Adds the text that an event has, if it is one of a statement.
     fn add_text(&mut self, bytes: &[u8], pending: usize) -> Result<(), AllocError>
-        ensures text { (text : List ℕ) → IsTextOf text bytes.now
+        ensures text { (text : List ℕ) → IsStatementText text bytes.now
             → OnOk result (text_at self.new.texts pending ≡ Some text) }
         ensures others { (n : ℕ) → n ≢ pending
             → text_at self.new.texts n ≡ text_at self.old.texts n }
-        ensures no_text { ((text : List ℕ) → IsTextOf text bytes.now → ⊥)
+        ensures no_text { ((text : List ℕ) → IsStatementText text bytes.now → ⊥)
             → self.new ≡ self.old }
         ensures same { self.new ≡ record self.old { texts = self.new.texts } }
     {

@@ -2,7 +2,7 @@
 //! `binary_log::Query_event` and `binary_log::Rows_query_event`. Nothing that is applied depends on it.
 
 ghost use Rattle.std.specs.Prelude.{◌≡◌, ◌≢◌, ℕ, List, [], OnOk, Some, IfSome, MatchOption};
-ghost use Rattle.feed.specs.Statements.{IsThreadOf, IsTextOf, text_at};
+ghost use Rattle.feed.specs.Statements.{IsThreadOf, IsStatementText, text_at};
 
 use byteorder::{ByteOrder, LittleEndian};
 use std::alloc::{AllocError, Global};
@@ -32,8 +32,8 @@ pub fn thread_of(event: &[u8]) -> Option<u32>
 
 /// The text of a ROWS_QUERY event; `None` of another one.
 pub fn text_of_query(event: &[u8]) -> Option<&[u8]>
-    ensures found { IfSome result (λ text. IsTextOf text.now event.now) }
-    ensures only { (text : List ℕ) → IsTextOf text event.now
+    ensures found { IfSome result (λ text. IsStatementText text.now event.now) }
+    ensures only { (text : List ℕ) → IsStatementText text event.now
         → MatchOption result ⊥ (λ found. found.now ≡ text) }
 {
     if event.len() < TEXT_AT {
