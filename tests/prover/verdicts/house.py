@@ -130,6 +130,15 @@ pub fn same(kind: &Kind) -> u64
     "crates/top/must-fail/same_as_nothing.edit": "file: src/lib.rt\nold: unwrap_or(0)\nnew: unwrap_or(1)\n",
 }
 
+# A page of a function's contract, as `scripts/doubt` shows it.
+CONTRACT = """crates/low/src/numbers.rt:16
+
+/// The half of a number, if it is even.
+pub fn half(value: u64) -> Option<u64>
+    requires { value ≤ 100 }
+    ensures halved { IfSome result (IsHalf value) }
+"""
+
 RT = "#!/bin/sh\ncat \"$(dirname \"$0\")/version\"\n"
 
 # What the prover says of each function that it is asked for: that it has no proof, but for those that the file `takes` names.
@@ -140,6 +149,10 @@ name = words[words.index("--crate-name") + 1]
 takes = (pathlib.Path(sys.argv[0]).parent / "takes").read_text().split()
 for function in [words[at + 1] for at, it in enumerate(words) if it == "--only"]:
     is_taken = function.split("::")[-1].split("_edit_")[0] in takes
-    print(f"fn {name}::{function}: " + ("no holes" if is_taken else "`search` did not prove `returns`; a goal"))
+    # Without wrong bodies it is the other way round: each function is proved, but for these.
+    is_doubted = "--allow-holes" not in words
+    said = "proved" if is_doubted else "no holes"
+    print(f"fn {name}::{function}: " + (said if is_taken != is_doubted else "`search` did not prove `returns`; a goal"))
+    print(f"note: `returns` of proofs/Answers.antt must prove: result ≡ {function}")
 print("only=it")
 '''

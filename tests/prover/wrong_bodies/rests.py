@@ -15,6 +15,7 @@ from typing import Dict, FrozenSet, List, Optional, Set, Tuple
 from edits import Edit
 from modules import module_at, reached
 from parts import Crate, Part, without_comments
+from source import text_of
 
 WORD = re.compile(r"[^\W\d]\w*")
 # A call of a method of any type, and one of a type that is named. In place of `Self` stands the type of the impl.
@@ -24,6 +25,12 @@ AFTER_PATH = re.compile(r"::(\w+)")
 TACTIC = re.compile(r"\b(\w+)::((?:specs|proofs)(?:::\w+)+)")
 CYCLE = re.compile(r"#\[cycle\((\w+)\)\]")
 OF_TYPE = re.compile(r"\b([A-Z]\w*)(?:::<[^>]*>)?::([a-z_]\w*)")
+
+
+def crates_of(root: str) -> Dict[str, List[str]]:
+    """Each crate's libraries, as crates.txt names them."""
+    lines = [line.partition("#")[0].partition(":") for line in text_of(f"{root}/crates.txt").split("\n") if ":" in line.partition("#")[0]]
+    return {name.split()[0]: rest.split() for name, _, rest in lines}
 
 
 class House:
