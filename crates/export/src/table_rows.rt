@@ -8,7 +8,7 @@ use crate::stored::{Stored, store};
 use crate::tables::{ExportTables, TableName, named};
 use columns::{Column, DescribedTable, Key};
 use gather::ImageRef;
-use rows::{Fault, Misfit, TextError, check_count, copied, has_key, show};
+use rows::{Fault, Misfit, TextError, check_copies, check_count, copied, has_key, show};
 use sqlite::types::ValueRef;
 use sqlite::{Alter, Connection, Constraint, Error, ErrorCode, Statement, Transaction};
 use std::alloc::{AllocError, AllocFailed, Global};
@@ -137,6 +137,7 @@ impl<'d, 'c, T: Alter> TableWriter<'d, 'c, T> {
         let Some((table, statement)) = &self.last else {
             return Ok(());
         };
+        check_copies(count)?;
         let row = values_of(self.alloc, table, image)?;
         if has_key(table) {
             collected.push(table, &row, count, image)?;

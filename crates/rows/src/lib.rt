@@ -37,7 +37,9 @@ pub use database_sets::{ExecutedSet, MissingSet};
 pub use described_tables::{DescribedTables, LastTable};
 pub use facts::{Facts, transactions_in};
 pub use json_lines::{write_image, write_json_name, write_object};
-pub use misfit::{CellError, Fault, Misfit, RowError, TextError, check_count, copied};
+pub use misfit::{
+    CellError, Fault, Misfit, RowError, TextError, check_copies, check_count, copied,
+};
 pub use notes::{Chosen, note_absent, note_patterns};
 pub use object::{has_key, write_cells};
 pub use rows::{Layout, TypedRows};

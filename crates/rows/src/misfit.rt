@@ -16,6 +16,11 @@ const CHARACTER_SET: &str =
 const KEY: &str =
     "fetch the description of the columns again; if it is the same, a statement that deletes rows, as TRUNCATE, was skipped";
 
+const COUNTED: &str = "the formats text and json of `mrep show` have their number";
+
+/// How many copies of a row are written one by one, at most: more are counted alone.
+const MOST_COPIES: u64 = 1_000_000_000;
+
 /// Why a row does not fit the description of its table.
 #[derive(Clone, Copy, Debug, PartialEq, Eq, Error)]
 pub enum Fault {
@@ -46,6 +51,9 @@ pub enum Fault {
     /// Another row has the same key.
     #[error("two rows have the same key")]
     SameKey,
+    /// There are so many copies of it, more than are written one by one.
+    #[error("a row is there {0} times, and no more than 1,000,000,000 copies are written")]
+    Copies(u64),
 }
 
 impl Fault {
@@ -54,6 +62,7 @@ impl Fault {
         match self {
             Fault::CharacterSet => CHARACTER_SET,
             Fault::NoKey | Fault::SameKey => KEY,
+            Fault::Copies(_) => COUNTED,
             _ => FETCH,
         }
     }
@@ -166,6 +175,14 @@ pub fn check_count<'d>(
     let cells = image.cells().take(65_536).count();
     if cells != table.columns.len() {
         return Err(TextError::Fault(None, Fault::Cells(cells, table.columns.len())));
+    }
+    Ok(())
+}
+
+/// Refuses more copies of a row than are written one by one.
+pub fn check_copies<'d>(count: u64) -> Result<(), TextError<'d>> {
+    if count > MOST_COPIES {
+        return Err(TextError::Fault(None, Fault::Copies(count)));
     }
     Ok(())
 }

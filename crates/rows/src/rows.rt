@@ -2,7 +2,7 @@
 
 use crate::described_tables::{DescribedTables, LastTable};
 use crate::json_lines::write_json_name;
-use crate::misfit::{Fault, RowError, TextError, check_count};
+use crate::misfit::{Fault, RowError, TextError, check_copies, check_count};
 use crate::shown::show;
 use crate::{csv_cells, json, sql, tsv};
 use binlog::Cell;
@@ -82,6 +82,7 @@ impl<'d, 'o, W: Write> TypedRows<'d, 'o, W> {
         let Some(described) = self.last.find(row.schema, row.table) else {
             return Err(TextError::Fault(None, Fault::Table));
         };
+        check_copies(times(self.layout.format, row.count))?;
         self.line.clear();
         write_row(
             self.alloc,
@@ -93,16 +94,20 @@ impl<'d, 'o, W: Write> TypedRows<'d, 'o, W> {
         )
     }
 
-    /// Prints the line of a row: as often as there are copies, or once where the line has their number.
+    /// Prints the line of a row.
     fn print(&mut self, count: u64) -> io::Result<()> {
-        let times = match self.layout.format {
-            Format::Text | Format::Json => 1,
-            Format::Csv | Format::Tsv | Format::Sql => count,
-        };
-        for _ in 0..times {
+        for _ in 0..times(self.layout.format, count) {
             self.out.write_all(&self.line)?;
         }
         Ok(())
+    }
+}
+
+/// How often the line of a row is printed: as often as there are copies, or once where it has their number.
+fn times(format: Format, count: u64) -> u64 {
+    match format {
+        Format::Text | Format::Json => 1,
+        Format::Csv | Format::Tsv | Format::Sql => count,
     }
 }
 

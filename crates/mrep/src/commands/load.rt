@@ -22,7 +22,7 @@ use std::io::Write;
 use watch::{Pulse, Watch};
 
 const CHANGED: &str =
-    "it was changed while it was loaded: clear its tables, and load a copy that stays as it is";
+    "it was changed while it was loaded: give it up by `mrep abandon`, and load a copy that stays as it is";
 
 /// Loads a first copy of tables, which is read to its end before the database is opened, and prints each table with the number
 /// of its rows.
