@@ -500,6 +500,35 @@ class Database:
         return ''.join(lines)
 
 
+class Unkept(Database):
+    """The executed set, and the changes of each transaction, where no rows are kept."""
+
+    def __init__(self, only=()):
+        super().__init__(only)
+        self.changes = []
+
+    def apply(self, done, changes):
+        if done in self.executed:
+            return False
+        self.executed.add(done)
+        self.changes.append((done, changes))
+        return True
+
+    def feed(self):
+        """Of each change its GTID, its place, its table and its cells before and after it."""
+        cells = lambda image: None if image is None else printed_cells(image)
+        return [(f'{uuid.UUID(bytes=source)}:{number}', place, *map(json_name, name), cells(before), cells(after))
+                for (source, number), changes in self.changes for place, (name, before, after) in enumerate(changes)]
+
+
+def json_name(name):
+    """A name as the feed has it."""
+    try:
+        return name.decode()
+    except UnicodeDecodeError:
+        return printed(name)
+
+
 # Connections
 
 

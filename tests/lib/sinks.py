@@ -96,6 +96,11 @@ def change(before, after, table='items', keys=('id',), **more):
             **({'after': after} if after else {}), **more}
 
 
+def emptied(table='items'):
+    """That all rows of a table go."""
+    return {'type': 'truncate', 'schema': 'shop', 'table': table}
+
+
 def item(number, name='x', photo=None):
     return {'id': number, 'name': name, 'photo': photo}
 

@@ -1,2 +1,3 @@
 pub mod Seconds
 pub mod Stamps
+pub mod Statements

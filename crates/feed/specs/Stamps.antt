@@ -32,12 +32,18 @@ is_rows (other_map id) = false
 is_rows (rows value) = true
 is_rows (xid number) = false
 
--- whether it says something of its transaction besides the changes: a GTID event, a rows event or an XID event
+-- whether memory may be taken for what it says: of a rows event, and of one that is ignored, since it may have the text of a statement
+abbrev pub may_take : EventValue → Bool
+may_take neutral = true
+may_take event = is_rows event
+
+-- whether it says something of its transaction besides the changes: a GTID event, BEGIN, a rows event, an XID event, or one that is
+-- ignored, as the text of a statement
 abbrev pub is_said : EventValue → Bool
 is_said format = false
-is_said begin = false
+is_said begin = true
 is_said commit = false
-is_said neutral = false
+is_said neutral = true
 is_said stop = false
 is_said (rotate position name) = false
 is_said (gtid source number) = true

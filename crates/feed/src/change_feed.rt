@@ -260,11 +260,13 @@ fn write_changes<W: Write>(
     let mut line = Vec::new(form.alloc);
     let mut last = form.tables.map(LastTable::new);
     let mut seconds = form.stamps.seconds.iter();
+    let mut texts = form.stamps.texts.iter();
     for (number, change) in (0..delivery.changes.len()).zip(delivery.changes.iter()) {
         let place = ChangePlace {
             gtid: delivery.gtid,
             number,
             seconds: seconds.at(number),
+            text: texts.at(number),
         };
         let Some(last) = &mut last else {
             write_change(form, place, &change, out)?;
@@ -283,12 +285,14 @@ fn write_changes<W: Write>(
 
 /// Where and when a change was made.
 #[derive(Clone, Copy)]
-struct ChangePlace {
+struct ChangePlace<'t> {
     gtid: Gtid,
     /// How many changes of its transaction stand before it.
     number: usize,
     /// Seconds since 1970-01-01 00:00:00 UTC, where they are known.
     seconds: Option<u32>,
+    /// The text of its statement, where it is the first change of one and the source has written it.
+    text: Option<&'t [u8]>,
 }
 
 /// Writes the line of a transaction that has been committed.
@@ -311,6 +315,9 @@ fn write_commit<W: Write>(
     if let Some(number) = stamps.xid {
         write!(out, ",\"xid\":{number}")?;
     }
+    if let Some(thread) = stamps.thread {
+        write!(out, ",\"thread\":{thread}")?;
+    }
     out.write_all(b"}\n")
 }
 
@@ -326,6 +333,7 @@ fn write_emptied<W: Write>(
         gtid,
         number: 0,
         seconds: None,
+        text: None,
     };
     write_head(alloc, "truncate", place, schema, table, out)?;
     out.write_all(b"}\n")
@@ -349,7 +357,7 @@ fn parts<'c, 'a>(
 /// Writes the line of a change: an object with the row before it, the row after it, or both.
 fn write_change<W: Write>(
     form: Form<'_>,
-    place: ChangePlace,
+    place: ChangePlace<'_>,
     change: &Change<'_>,
     out: &mut W,
 ) -> io::Result<()> {
@@ -367,7 +375,7 @@ fn write_change<W: Write>(
 fn write_typed<'d>(
     form: Form<'d>,
     described: Option<&'d DescribedTable>,
-    place: ChangePlace,
+    place: ChangePlace<'_>,
     change: &Change<'_>,
     line: &mut Vec<u8>,
 ) -> Result<(), TextError<'d>> {
@@ -391,7 +399,7 @@ fn write_typed<'d>(
 fn write_head<W: Write>(
     alloc: Global,
     kind: &str,
-    place: ChangePlace,
+    place: ChangePlace<'_>,
     schema: &[u8],
     table: &[u8],
     out: &mut W,
@@ -403,6 +411,10 @@ fn write_head<W: Write>(
     )?;
     if let Some(seconds) = place.seconds {
         write!(out, ",\"ts\":{seconds}")?;
+    }
+    if let Some(text) = place.text {
+        out.write_all(b",\"query\":")?;
+        write_json_name(alloc, text, out)?;
     }
     out.write_all(b",\"schema\":")?;
     write_json_name(alloc, schema, out)?;

@@ -10,6 +10,7 @@ mod change_feed;
 mod seconds;
 mod skip_feed;
 mod stamps;
+mod statements;
 
 pub use change_feed::{Feed, FeedEntry, OUTPUT};
 pub use skip_feed::{SkipError, SkipFeed, Skipping};

@@ -1,11 +1,14 @@
 -- Changes of tables that the filter leaves out are skipped.
-use Rattle.replica.proofs.Names.{◌≡◌, Bool, true, false, List, [], ◌∷◌, ◌++◌, map, flat_map, refl, sym, subst, ◌∙◌, MatchBool, Names, admits, is_read, TableValue, ChangeValue, Bag, Content, IsMade, is_admitted, AreDone, HasOutcome, done, PartValue, ScriptValue, transaction}
-use Rattle.std.proofs.Common.{if◌then◌else◌}
+use Rattle.replica.proofs.Names.{◌≡◌, ℕ, inl, inr, ap, ap₂, cases_Bool, bytes_eq-Decides, Bool, true, false, List, [], ◌∷◌, ◌++◌, map, flat_map, refl, sym, subst, ◌∙◌, MatchBool, Names, admits, is_read, TableValue, ChangeValue, Bag, Content, IsMade, is_admitted, AreDone, HasOutcome, done, PartValue, ScriptValue, transaction}
+use Rattle.std.proofs.Common.{◌&&◌, if◌then◌else◌}
+use Rattle.std.specs.Str.{bytes_eq}
+use Rattle.std.proofs.lemmas.Bool.{and_parts}
+use Rattle.std.proofs.lemmas.List.Elements.{filter-append}
 use Rattle.std.specs.FinSet as set
 use Rattle.binlog.specs.Rows.{PairValue, inserted, deleted, updated}
 use Rattle.binlog.proofs.TableSets.{all_read, not_read}
 use Rattle.gather.specs.Transaction.{change_of}
-use Rattle.replica.specs.Resume.{part_changes}
+use Rattle.replica.specs.Resume.{part_changes, is_change_of, table_changes}
 
 -- a replica without a list reads all tables
 pub all_changes : (part : PartValue) → part_changes set.empty part ≡ map (change_of part.table) part.pairs
@@ -79,3 +82,55 @@ whole_or_not names script old new = (
   (λ t. (t.0, parts_without names script.parts old.rows new.rows t.1, t.2)),
   (λ t. (t.0, parts_within names script.parts old.rows new.rows t.1, t.2)),
 )
+
+-- ---- The changes of one table.
+
+mine : (schema table : List ℕ) (t : TableValue) (pair : PairValue) → is_change_of schema table (change_of t pair) ≡ (bytes_eq t.schema schema && bytes_eq t.table table)
+mine schema table t (inserted after) = refl
+mine schema table t (deleted before) = refl
+mine schema table t (updated before after) = refl
+
+none_of_it : (schema table : List ℕ) (t : TableValue) (pairs : List PairValue) → (bytes_eq t.schema schema && bytes_eq t.table table) ≡ false → table_changes schema table (map (change_of t) pairs) ≡ []
+none_of_it schema table t [] other = refl
+none_of_it schema table t (pair ∷ pairs) other =
+    subst (λ (b : Bool). (if b then change_of t pair ∷ table_changes schema table (map (change_of t) pairs) else table_changes schema table (map (change_of t) pairs)) ≡ []) (sym (mine schema table t pair ∙ other))
+    (none_of_it schema table t pairs other)
+
+-- the part's table is the one, or another
+is_it : (names : Names) (schema table : List ℕ) (t : TableValue) → (bytes_eq t.schema schema && bytes_eq t.table table) ≡ true → is_read names t.schema t.table ≡ is_read names schema table
+is_it names schema table t is =
+    let p = and_parts (bytes_eq t.schema schema) (bytes_eq t.table table) is in
+    ap₂ (λ (s n : List ℕ). is_read names s n) ((bytes_eq-Decides t.schema schema).0 p.0) ((bytes_eq-Decides t.table table).0 p.1)
+
+read_part : (names : Names) (schema table : List ℕ) (part : PartValue) → is_read names schema table ≡ true → table_changes schema table (part_changes names part) ≡ table_changes schema table (part_changes set.empty part)
+read_part names schema table part read = elim (cases_Bool (bytes_eq part.table.schema schema && bytes_eq part.table.table table)) [
+  | inl it ↦ ap (table_changes schema table) (ap (λ (b : Bool). if b then map (change_of part.table) part.pairs else []) (is_it names schema table part.table it ∙ read) ∙ sym (all_changes part))
+  | inr other ↦ nothing_read (is_read names part.table.schema part.table.table) other ∙ sym (ap (table_changes schema table) (all_changes part) ∙ none_of_it schema table part.table part.pairs other)
+]
+  where
+    nothing_read : (b : Bool) → (bytes_eq part.table.schema schema && bytes_eq part.table.table table) ≡ false → table_changes schema table (if b then map (change_of part.table) part.pairs else []) ≡ []
+    nothing_read true other = none_of_it schema table part.table part.pairs other
+    nothing_read false other = refl
+
+unread_part : (names : Names) (schema table : List ℕ) (part : PartValue) → is_read names schema table ≡ false → table_changes schema table (part_changes names part) ≡ []
+unread_part names schema table part unread = elim (cases_Bool (bytes_eq part.table.schema schema && bytes_eq part.table.table table)) [
+  | inl it ↦ ap (table_changes schema table) (ap (λ (b : Bool). if b then map (change_of part.table) part.pairs else []) (is_it names schema table part.table it ∙ unread))
+  | inr other ↦ nothing_unread (is_read names part.table.schema part.table.table) other
+]
+  where
+    nothing_unread : (b : Bool) → (bytes_eq part.table.schema schema && bytes_eq part.table.table table) ≡ false → table_changes schema table (if b then map (change_of part.table) part.pairs else []) ≡ []
+    nothing_unread true other = none_of_it schema table part.table part.pairs other
+    nothing_unread false other = refl
+
+pub read_parts : (names : Names) (schema table : List ℕ) (parts : List PartValue) → is_read names schema table ≡ true → table_changes schema table (flat_map (part_changes names) parts) ≡ table_changes schema table (flat_map (part_changes set.empty) parts)
+read_parts names schema table [] read = refl
+read_parts names schema table (part ∷ parts) read =
+    filter-append (is_change_of schema table) (part_changes names part) (flat_map (part_changes names) parts)
+    ∙ ap₂ (λ (a b : List ChangeValue). a ++ b) (read_part names schema table part read) (read_parts names schema table parts read)
+    ∙ sym (filter-append (is_change_of schema table) (part_changes set.empty part) (flat_map (part_changes set.empty) parts))
+
+pub unread_parts : (names : Names) (schema table : List ℕ) (parts : List PartValue) → is_read names schema table ≡ false → table_changes schema table (flat_map (part_changes names) parts) ≡ []
+unread_parts names schema table [] unread = refl
+unread_parts names schema table (part ∷ parts) unread =
+    filter-append (is_change_of schema table) (part_changes names part) (flat_map (part_changes names) parts)
+    ∙ ap₂ (λ (a b : List ChangeValue). a ++ b) (unread_part names schema table part unread) (unread_parts names schema table parts unread)

@@ -1,11 +1,12 @@
 -- A replica that asks a scripted source again. MySQL Source Documentation, Client/Server Protocol, "Connection Phase";
 -- Replication Protocol: COM_BINLOG_DUMP_GTID.
-use Rattle.std.specs.Prelude.{◌≡◌, ℕ, ◌+◌, ◌^◌, ◌<◌, ◌≤◌, ◌++◌, Bool, false, List, [], ◌∷◌, length, map, take, flat_map, if◌then◌else◌}
+use Rattle.std.specs.Prelude.{◌≡◌, ℕ, ◌+◌, ◌^◌, ◌<◌, ◌≤◌, ◌++◌, Bool, false, ◌&&◌, List, [], ◌∷◌, length, map, filter, take, flat_map, if◌then◌else◌}
+use Rattle.std.specs.Str.{bytes_eq}
 use Rattle.std.specs.List.{AllByRecursion}
 use Rattle.wire.specs.Packet.{largest_payload}
 use Rattle.greet.specs.Message.{DumpValue}
 use Rattle.binlog.specs.Filter.{Names, is_read}
-use Rattle.gather.specs.Transaction.{ChangeValue, DeliveryValue, change_of}
+use Rattle.gather.specs.Transaction.{ChangeValue, changed_schema, changed_table, DeliveryValue, change_of}
 use Rattle.store.specs.State.{Content}
 use Rattle.store.specs.Open.{nothing}
 use Rattle.replica.specs.declared.session.end.Reason.{Reason}
@@ -25,6 +26,14 @@ part_changes names part = if is_read names part.table.schema part.table.table th
 
 abbrev pub transaction : Names → ScriptValue → DeliveryValue
 transaction names script = record { source = script.source; number = script.number; changes = flat_map (part_changes names) script.parts }
+
+-- whether a change is one of this table
+abbrev pub is_change_of : List ℕ → List ℕ → ChangeValue → Bool
+is_change_of schema table change = bytes_eq (changed_schema change) schema && bytes_eq (changed_table change) table
+
+-- the changes of one table, in their order
+abbrev pub table_changes : List ℕ → List ℕ → List ChangeValue → List ChangeValue
+table_changes schema table changes = filter (is_change_of schema table) changes
 
 abbrev pub transactions : Names → List ScriptValue → List DeliveryValue
 transactions names history = map (transaction names) history

@@ -11,7 +11,7 @@ ghost use Rattle.sqlite_wal.specs.Recovery.{Image};
 ghost use Rattle.sqlite_wal.specs.Files.{outcomes};
 ghost use Rattle.sqlite_schema.specs.declared.schema.Schema.{Schema};
 ghost use Rattle.gtid.specs.Identifier.{Ids};
-ghost use Rattle.binlog.specs.Filter.{Names};
+ghost use Rattle.binlog.specs.Filter.{Names, is_read};
 ghost use Rattle.gather.specs.Transaction.{DeliveryValue, change_of};
 ghost use Rattle.scripted_source.specs.Script.{PartValue, ScriptValue};
 ghost use Rattle.scripted_source.specs.Source.{is_once};
@@ -41,7 +41,7 @@ ghost use Rattle.replica.specs.Noted.{Account, IsExcluded, IsNotedOf, IsNotedSin
 ghost use Rattle.replica.specs.Missing.{waits_for_none};
 ghost use Rattle.replica.specs.Feed.{FileLine, open_line, whole_line, Reader, at_first, read_line, read_file, with_changes, AreFed, all_lines};
 ghost use Rattle.replica.specs.Restart.{Starts, IsUncut, MayFindUnopened, AreStarts, HoldFirst, FilesNeverFall};
-ghost use Rattle.replica.specs.Resume.{Resumes, Leads, Reaches, AreRestarts, NeverFalls, part_changes, transaction, transactions, end_reason};
+ghost use Rattle.replica.specs.Resume.{Resumes, Leads, Reaches, AreRestarts, NeverFalls, part_changes, transaction, table_changes, transactions, end_reason};
 
 use crate::file::Unopened;
 use crate::session::Session;
@@ -296,11 +296,19 @@ pub fn restarted_files<
 }
 
 /// The transactions of a history, as a connection has them, leave out the changes of tables that the filter leaves out;
-/// with the empty filter they have all changes. A replica applies a transaction without these changes exactly if it applies
-/// the whole one.
+/// with the empty filter they have all changes. Of each table that is read they have all changes, in their order, and of no
+/// other table one: so whoever uses each transaction once ([`consumed`]) misses no change of a table that is read. A replica
+/// applies a transaction without these changes exactly if it applies the whole one.
 pub fn filtered()
     ensures all { (part : PartValue) → part_changes set.empty part
         ≡ map (change_of part.table) part.pairs }
+    ensures read { (names : Names) (script : ScriptValue) (schema table : List ℕ)
+        → is_read names schema table ≡ true
+        → table_changes schema table (transaction names script).changes
+        ≡ table_changes schema table (transaction set.empty script).changes }
+    ensures unread { (names : Names) (script : ScriptValue) (schema table : List ℕ)
+        → is_read names schema table ≡ false
+        → table_changes schema table (transaction names script).changes ≡ [] }
     ensures taken { (names : Names) (script : ScriptValue) (old new : Content)
         → HasOutcome names old (transaction set.empty script) (done new)
         ↔ HasOutcome names old (transaction names script) (done new) }

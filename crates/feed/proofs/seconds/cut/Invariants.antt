@@ -1,4 +1,4 @@
-use Rattle.std.proofs.Common.{◌≡◌, ◌<◌, ◌≤◌, ℕ, length}
+use Rattle.std.proofs.Common.{◌≡◌, ◌<◌, ℕ, length}
 use Rattle.feed.specs.Seconds.{seconds_at, BeginAt}
 use Rattle.feed.proofs.seconds.cut.Given as goal
 

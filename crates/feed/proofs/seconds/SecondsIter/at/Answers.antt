@@ -1,4 +1,4 @@
-use Rattle.std.proofs.Common.{rules, arith, sym, ap, ◌∙◌, ◌≤◌, ◌<◌, get_or, length, None}
+use Rattle.std.proofs.Common.{rules, arith, ap, ◌∙◌, ◌≤◌, ◌<◌, get_or, length, None}
 use Rattle.feed.specs.Seconds.{seconds_after}
 use Rattle.feed.proofs.Spans.{stops}
 use Rattle.feed.proofs.seconds.SecondsIter.at.Goals as goal
