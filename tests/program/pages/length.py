@@ -30,7 +30,7 @@ def sentences(text):
             yield re.findall(r'\S*\w\S*', sentence)
 
 
-pages = sorted({path for pattern in PAGES for path in glob.glob(pattern, root_dir=root, recursive=True)})
+pages = sorted({os.path.relpath(path, root) for pattern in PAGES for path in glob.glob(f'{root}/{pattern}', recursive=True)})
 words = {page: len(re.findall(r'\S*\w\S*', read(page))) for page in pages}
 if sum(words.values()) > WORDS:
     bad.append(f'the pages have {sum(words.values())} words, and {WORDS} are allowed')
