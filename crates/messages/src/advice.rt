@@ -11,7 +11,7 @@ const COMPRESSED: u8 = 40;
 const TAGGED_GTID: u8 = 42;
 
 const NO_CHECKSUMS: &str =
-    "the source has to run with binlog_checksum = NONE; what was written before cannot be read: adopt the Previous_gtids of the first log file after the change";
+    "let mrep-proxy read it, or run the source with binlog_checksum = NONE; what was written before that cannot be read then: begin a new database by a first copy (mrep select)";
 
 const NATIVE_PASSWORD: &str =
     "the account has to use mysql_native_password, which MySQL 8.4 loads with loose_mysql_native_password = ON and MySQL 9 does not have";

@@ -9,8 +9,8 @@ use crate::report::failure::{
 use crate::report::wanted::Wanted;
 use clap::ArgMatches;
 use command_line::{parse_gtid, parse_set, parse_table, word};
-use formats::write_table;
-use gtid::{Gtid, GtidSet};
+use formats::{Shown, write_table};
+use gtid::{Gtid, GtidSet, Spans};
 use replica::{ClearEnd, ClearedFile, Observer, Reason, clear_file};
 use sqlite::File;
 use sqlite_disk::Unknown;
@@ -21,6 +21,9 @@ use watch::Watch;
 
 const OTHER_SET: &str =
     "it has not executed just the set of --at, and besides it copies alone, so that rows from before the statement would come back, or later ones go: follow --until exactly what the source had executed before it, or give that set";
+
+const GAP: &str =
+    "not all transactions of this source with lower numbers are executed: one of them that comes later puts rows back";
 
 /// Takes all rows of a table out of a database and records a GTID as executed, in one commit, and prints how many rows went.
 pub fn clear<W: Write, E: Write>(
@@ -45,12 +48,29 @@ pub fn clear<W: Write, E: Write>(
         is_copy: false,
     };
     let rows = clear_reported(rt, &wanted, clear, out, err)?;
+    if rows.is_some() && has_gap_below(at.spans(), gtid) {
+        let _ = writeln!(err, "mrep: {}: {GAP}", Shown(wanted.db));
+    }
     if wanted.feeds_output() {
         print(rows, err)?;
     } else {
         print(rows, out)?;
     }
     Ok(DONE)
+}
+
+/// Whether a number of the source below a GTID is in none of the spans of a set.
+fn has_gap_below(spans: Spans<'_>, gtid: Gtid) -> bool {
+    let last = gtid.number.saturating_sub(1);
+    if last == 0 {
+        return false;
+    }
+    for span in spans {
+        if span.source == gtid.source && span.lo == 1 && span.hi >= last {
+            return false;
+        }
+    }
+    true
 }
 
 /// A table, by its names, the GTID of the statement that has emptied it, and what the source had executed before.

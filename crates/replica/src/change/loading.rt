@@ -183,7 +183,8 @@ fn why_not_had(
             Err(_) => Some(Unloadable::Failed(StoreFault::Memory)),
         };
     }
-    if executed.is_subset(&GtidSet::new(alloc)) {
+    let is_first = executed.is_subset(&GtidSet::new(alloc));
+    if is_first {
         return None;
     }
     let name = first_left_out(following, true, tables)?;

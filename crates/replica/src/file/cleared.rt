@@ -27,6 +27,8 @@ pub struct ClearedFile<D: Disk> {
 /// made for other tables than this one, or if it has not executed `at` and besides it copies alone: `at` is what the source had
 /// executed before the GTID, and a transaction of it that came later would put rows back.
 ///
+/// Of a table that is read and not kept there are no rows, and the GTID alone is added.
+///
 /// The observer is always noticed of the executed set, and then of the transaction, with a delete for each copy of each row. All
 /// of these are in memory at once.
 ///
@@ -47,7 +49,8 @@ pub fn clear_file<P: Start, W: Observer>(
     observer: &mut W,
 ) -> Result<ClearedFile<FileFrom<P>>, Unopened<FileFrom<P>>>
     // If the files held a database that stands for a content, or none was there, the closed files hold that content without the
-    // rows of the table, if the end says so, and otherwise the content itself.
+    // rows of the table, if the end says so (with all its rows where the filter does not admit the table), and otherwise the
+    // content itself.
     ensures clears { IfOk result (λ done. OfHeld None (image_at P.Start) (λ names content.
         ClearsFile (clear_of schema.now table.now gtid at.now) names content done)) }
     // Any other database whose tables are known stood for a content too. Why the files could not be closed is what they met.

@@ -35,8 +35,9 @@ pub struct LoadedFile<E, D: Disk> {
 /// copy that was begun goes on where it stopped; one that has ended changes nothing.
 ///
 /// While a copy has begun and not ended, no other one is loaded. A copy that was not begun is refused, and nothing is changed and
-/// nothing reported, unless the database has executed nothing, or exactly the set and besides it copies alone; its filter admits
-/// the tables; and none of them has rows.
+/// nothing reported, unless the database has executed nothing, or exactly the set and besides it copies alone; the tables are
+/// read, and their rows are kept or nothing is executed; and none of them has rows. Of tables that are read and not kept the rows
+/// are reported alone.
 ///
 /// `start` stands for what the files held before (see [`open_file`]).
 ///
