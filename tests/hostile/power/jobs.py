@@ -131,6 +131,13 @@ class Makers:
         job = Job(name, self.replayed(name, self.half, *words), self.history, replay(self.stream, *words))
         return job.feed(FEED, adopts=True).record()
 
+    def replay_unkept(self) -> Job:
+        """A new database that keeps no rows."""
+        name = 'replay that keeps no rows'
+        job = Job(name, self.folder(name), [(gtids, '') for gtids, _ in self.history], replay(self.stream, '--feed-only', '--changes', FEED))
+        job.keeps = False
+        return job.feed(FEED, adopts=True).record()
+
     def killed(self, call: Tuple[str, int]) -> Job:
         """A replay that is killed before a call, and is started again."""
         name = f'replay after a kill before {call[0]} {call[1]}'
@@ -267,6 +274,7 @@ class Makers:
             for call in chance.sample(calls, kills):
                 yield killed(call)
         yield self.replay_aside()
+        yield self.replay_unkept()
         if kills > 1:
             yield self.long()
         yield self.reopened()

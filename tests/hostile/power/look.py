@@ -93,6 +93,8 @@ class Job:
     data = b''
     # How many states are looked at, where they are large.
     most = 1 << 30
+    # Whether rows are kept.
+    keeps = True
     # Whether something is lost where nothing was synced.
     needs_syncs = True
 
@@ -118,7 +120,7 @@ class Job:
     def recorded(self) -> 'Job':
         same(f'{self.name}: at the end', read(self.folder), self.contents[-1])
         self.transactions, _ = self.used(self.folder)
-        if self.feeds:
+        if self.feeds and self.keeps:
             # Those that come and that go make the rows that are there.
             kinds = [change['type'] for changes in self.transactions for change in changes]
             there = sum(int(line.split(' ')[1]) for line in self.contents[-1][1].splitlines())
