@@ -54,6 +54,16 @@ def measured(*words):
     return time.time() - begun, float(processor), float(memory)
 
 
+def opening(db):
+    """The seconds of a command that opens the database, and its greatest memory in MiB."""
+    seconds = []
+    for _ in range(RUNS):
+        begun = time.time()
+        subprocess.run([PROGRAM, 'gtids', '--db', db], stdout=subprocess.DEVNULL, check=True)
+        seconds.append(time.time() - begun)
+    return min(seconds), measured('gtids', '--db', db)[2]
+
+
 def removed(db):
     for name in (db, f'{db}-wal', f'{db}.feed'):
         if os.path.exists(name):
@@ -86,8 +96,8 @@ def main():
                     continue
                 runs = [run(folder, count, words) for _ in range(RUNS if count <= LARGE else 1)]
                 clock, processor, memory = (min(parts) for parts in zip(*runs))
-                opened = min(measured('gtids', '--db', db) for _ in range(RUNS))
-                print(f'| {count:,} | {kind} | {count / clock:,.0f} | {count / processor:,.0f} | {memory:.0f} | {os.path.getsize(db) / 1024:,.0f} | {opened[0]:.3f} | {opened[2]:.0f} |', flush=True)
+                opened = opening(db)
+                print(f'| {count:,} | {kind} | {count / clock:,.0f} | {count / processor:,.0f} | {memory:.0f} | {os.path.getsize(db) / 1024:,.0f} | {opened[0]:.3f} | {opened[1]:.0f} |', flush=True)
 
 
 main()
