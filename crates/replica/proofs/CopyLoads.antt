@@ -62,7 +62,7 @@ admitted : (b : Bool) (X Y : Type 0) → b ≡ true → MatchBool b X Y → X
 admitted true X Y is h = h
 admitted false X Y is h = absurd (false≢true is)
 
-inserts : (names : Names) (changes : List ChangeValue) (rows : List TableRow) (old new : Bag) → AreAdditions names changes rows → AreDone names changes old new → AreAdded rows old new
+pub inserts : (names : Names) (changes : List ChangeValue) (rows : List TableRow) (old new : Bag) → AreAdditions names changes rows → AreDone names changes old new → AreAdded rows old new
 inserts names [] rows old new are all = subst (λ l. AreAdded l old new) (sym are) all
 inserts names (insert schema table cells ∷ changes) rows old new are all =
     let made : IsMade (insert schema table cells) old all.0 = admitted _ _ _ are.2 all.1 in

@@ -55,3 +55,4 @@ pub mod ClearStore
 pub mod ClearFiles
 pub mod ContentStays
 pub mod AdoptStore
+pub mod SourceLogs

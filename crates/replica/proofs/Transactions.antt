@@ -11,7 +11,7 @@ use Rattle.scripted_source.specs.Source.{due}
 
 -- ---- What is made of a bag is determined.
 
-no_other : (m n : ℕ) → ((m ≡ n → ⊥) → ⊥) → m ≡ n
+pub no_other : (m n : ℕ) → ((m ≡ n → ⊥) → ⊥) → m ≡ n
 no_other m n h = elim (cases_lt m n) [
   | inl less ↦ absurd (h (λ e. omega (arith, less, e)))
   | inr over ↦ elim (cases_lt n m) [

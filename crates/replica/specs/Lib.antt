@@ -38,5 +38,6 @@ pub mod Copied
 pub mod Clear
 pub mod Clearing
 pub mod ClearFile
+pub mod SourceLog
 pub mod Work
 pub mod Adopt
