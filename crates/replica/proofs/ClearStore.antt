@@ -1,7 +1,7 @@
 -- A store while the rows of one table are taken out of it.
 use Rattle.replica.proofs.Names.{◌≡◌, inl, inr, ℕ, arith, Bool, true, false, List, [], ◌∷◌, ◌++◌, length, Option, Some, None, Result, Ok, Err, IfErr, IsTrue, refl, sym, ap, subst, subst₂, ◌∙◌, append_assoc, append-nil, replicate, if◌then◌else◌, cases_Bool, false≢true, Ghosts, Trees, Held, Ids, CellValue, Names, admits, is_read, ChangeValue, Content, HasOutcome, done, AreDone, IsRefusedAt, Entry, StoreFault, ListError, Store, HasFailed, HoldsAs, AreOf, NoSuchRow, CountFull, Reason, Refused, Database, Memory, Halted, Account, HasNotices, StillWaits, WereMissed, has_failure, IsLeftOfNoted, IsNotedSinceOpening, IsLedOver, IsLedSinceOpening, TakesAlone, HasStayed}
 use Rattle.std.proofs.Common.{OnOk}
-use Rattle.std.specs.Prelude.{flat_map, MatchOption}
+use Rattle.std.specs.Prelude.{flat_map, MatchOption, MatchBool}
 use Rattle.std.specs.FinSet as set
 use Rattle.std.specs.List.{FoldsTo}
 use Rattle.sqlite.specs.Held.{state}
@@ -24,7 +24,7 @@ use Rattle.replica.specs.declared.change.clearing.TableRows.{TableRows}
 use Rattle.replica.specs.Noted.{Excludes, opened}
 use Rattle.replica.specs.Alone.{IsOwnOrHalted}
 use Rattle.replica.specs.Copies.{HasJust}
-use Rattle.replica.specs.Clear.{TableClear, IsClearedWhere, IsClearedBy, is_in_table, IsToBeCleared, IsClearedAt, MayEndClear}
+use Rattle.replica.specs.Clear.{TableClear, IsClearedWhere, IsClearedBy, is_in_table, IsToBeCleared, IsClearedAt, HasTakenOut, MayEndClear}
 use Rattle.replica.specs.Clearing.{deletes_of, AreDeletesOf, AppendsDeletes, TakesRow, gathered_of, end_by, ListsDeletes, HasCleared, IsClearedSinceOpening}
 use Rattle.replica.proofs.RowDeletes.{others_stay, all_gone, none_refused, all_skipped, none_of_them_refused, as_many}
 use Rattle.replica.proofs.Notices.{weaker_leaves, since_through, none_let}
@@ -236,7 +236,8 @@ module _ {S : Type 0} (g : Ghosts S) (settled : (h : Held S) (db : Trees) → Is
       → HasCleared g names clear store old (Failed cause)
   not_listed names clear store old cause is it = record { new = old; clears = (is, it.0, refl); stays = weaker g store old (λ left. left ≡ old) _ (λ left same. inl same) it.1 }
 
-  module _ (clear : TableClear) (before after : Store S g) (old : Content) (rows : ℕ) (changes : List ChangeValue) (later : after.following ≡ before.following) (is : IsClearedAt before.following clear old) (are : AreDeletesOf clear.schema clear.table old.rows changes) (so_many : rows ≡ length changes) where
+  module _ (clear : TableClear) (before after : Store S g) (old : Content) (rows : ℕ) (changes : List ChangeValue) (later : after.following ≡ before.following) (is : IsClearedAt before.following clear old) (are : AreDeletesOf clear.schema clear.table old.rows changes)
+      (so_many : MatchBool (admits before.following clear.schema clear.table) (rows ≡ length changes) (rows ≡ 0)) where
     -- the transaction is executed before
     not_known : {X : Type 0} → set.contains old.executed (clear.source, clear.number) ≡ true → X
     not_known known = absurd (false≢true (sym is.to_be.fresh ∙ known))
@@ -244,13 +245,17 @@ module _ {S : Type 0} (g : Ghosts S) (settled : (h : Held S) (db : Trees) → Is
     left_so : (left : Content) → HasOutcome before.following old (record { source = clear.source; number = clear.number; changes = changes }) (done left) → IsClearedBy before.following clear old left
     left_so left outcome = is_cleared before.following clear old changes are left outcome
 
+    taken_out : (kept : Bool) → MatchBool kept (rows ≡ length changes) (rows ≡ 0) → HasTakenOut kept clear.schema clear.table old.rows rows
+    taken_out true so = record { entries = are.entries; lists = are.lists; counted = so ∙ ap length are.changes_are ∙ as_many clear.schema clear.table are.entries }
+    taken_out false so = so
+
     by_answer : (answer : Result Bool Reason) → TakesAlone g old (record { source = clear.source; number = clear.number; changes = changes }) before after answer → HasCleared g before.following clear after old (end_by rows answer)
     by_answer (Ok true) it = record {
       new = it.after;
       clears = elim it.applies [
         | inl one ↦ (
           is,
-          record { entries = are.entries; lists = are.lists; counted = so_many ∙ ap length are.changes_are ∙ as_many clear.schema clear.table are.entries },
+          taken_out (admits before.following clear.schema clear.table) so_many,
           subst (λ (c : Content). IsClearedBy before.following clear old c) (sym one.4.1) (left_so one.0 one.2),
         )
         | inr known ↦ not_known known.0
@@ -302,10 +307,14 @@ module _ {S : Type 0} (g : Ghosts S) (settled : (h : Held S) (db : Trees) → Is
 
   -- the tables are those of the store from before the list
   pub ends_by : (names : Names) (clear : TableClear) (before after : Store S g) (old : Content) (rows : ℕ) (changes : List ChangeValue) (answer : Result Bool Reason) (end : ClearEnd) → end ≡ end_by rows answer → before.following ≡ names → after.following ≡ before.following → IsClearedAt names clear old
-      → AreDeletesOf clear.schema clear.table old.rows changes → rows ≡ length changes → TakesAlone g old (record { source = clear.source; number = clear.number; changes = changes }) before after answer → HasCleared g names clear after old end
+      → AreDeletesOf clear.schema clear.table old.rows changes → MatchBool (admits names clear.schema clear.table) (rows ≡ length changes) (rows ≡ 0) → TakesAlone g old (record { source = clear.source; number = clear.number; changes = changes }) before after answer → HasCleared g names clear after old end
   ends_by names clear before after old rows changes answer end ends same later is are so_many takes =
       subst₂ (λ n e. HasCleared g n clear after old e) same (sym ends)
-      (by_answer clear before after old rows changes later (subst (λ n. IsClearedAt n clear old) (sym same) is) are so_many answer takes)
+      (by_answer clear before after old rows changes later (subst (λ n. IsClearedAt n clear old) (sym same) is) are (subst (λ n. MatchBool (admits n clear.schema clear.table) (rows ≡ length changes) (rows ≡ 0)) (sym same) so_many) answer takes)
+
+-- how many rows go, by the tables that a store follows
+pub rows_by : (names following : Names) (schema table : List ℕ) (rows : ℕ) (changes : List ChangeValue) → following ≡ names → MatchBool (admits following schema table) (rows ≡ length changes) (rows ≡ 0) → MatchBool (admits names schema table) (rows ≡ length changes) (rows ≡ 0)
+rows_by names following schema table rows changes same so = subst (λ n. MatchBool (admits n schema table) (rows ≡ length changes) (rows ≡ 0)) same so
 
 -- whether the observer has ended it
 pub may_end_by : (rows : ℕ) (answer : Result Bool Reason) (account : Account) → IfErr answer (λ reason. IsOwnOrHalted reason account.has_stopped) → MayEndClear (end_by rows answer) account

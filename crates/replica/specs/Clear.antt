@@ -60,6 +60,11 @@ pub record HasTableRows (schema table : List ℕ) (bag : Bag) (count : ℕ) : Ty
   pub lists : ListsBag bag entries
   pub counted : count ≡ rows_in_table schema table entries
 
+-- So many of its rows were taken out: all where they are kept, and none where they are only read.
+abbrev pub HasTakenOut : Bool → List ℕ → List ℕ → Bag → ℕ → Type 0
+HasTakenOut true schema table bag count = HasTableRows schema table bag count
+HasTakenOut false schema table bag count = count ≡ 0
+
 module _ (names : Names) (clear : TableClear) where
   -- The GTID is not executed, and the table is read.
   pub record IsToBeCleared (old : Content) : Type 0 where
@@ -75,11 +80,11 @@ module _ (names : Names) (clear : TableClear) where
     pub to_be : IsToBeCleared old
     pub just : HasJust old.executed clear.at
 
-  -- The new content, by how it has ended: the old one without the rows of the table, of which there were so many; or the old one,
+  -- The new content, by how it has ended: the old one without the rows of the table, of which so many were kept; or the old one,
   -- since the GTID was executed, the table is not read, another set is executed than the one before it, the rows could not be
   -- listed, or the transaction was not applied. It is not refused.
   abbrev pub ClearsTo : Content → ClearEnd → Content → Type 0
-  ClearsTo old (Cleared rows) new = IsClearedAt old × HasTableRows clear.schema clear.table old.rows rows × IsClearedBy old new
+  ClearsTo old (Cleared rows) new = IsClearedAt old × HasTakenOut (admits names clear.schema clear.table) clear.schema clear.table old.rows rows × IsClearedBy old new
   ClearsTo old Repeat new = (set.contains old.executed (clear.source, clear.number) ≡ true) × (new ≡ old)
   ClearsTo old NotFollowed new = (set.contains old.executed (clear.source, clear.number) ≡ false) × (is_read names clear.schema clear.table ≡ false) × (new ≡ old)
   ClearsTo old OtherSet new = IsToBeCleared old × (¬ HasJust old.executed clear.at) × (new ≡ old)

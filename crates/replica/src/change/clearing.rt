@@ -1,7 +1,8 @@
 //! Taking all rows of one table out of a store, in one transaction.
 
-ghost use Rattle.std.specs.Prelude.{◌≡◌, ◌++◌, true, replicate, OnOk, IfOk};
+ghost use Rattle.std.specs.Prelude.{◌≡◌, ◌++◌, true, length, replicate, OnOk, IfOk, MatchBool};
 ghost use Rattle.sqlite.specs.State.{HasCleanDisk};
+ghost use Rattle.binlog.specs.Filter.{admits};
 ghost use Rattle.gather.specs.Transaction.{delete};
 ghost use Rattle.store.specs.State.{Content};
 ghost use Rattle.store.specs.Listing.{entry_of};
@@ -16,7 +17,7 @@ use crate::observer::Observer;
 use crate::session::dump::apply;
 use crate::session::end::Reason;
 use crate::source::connections::NoMemory;
-use binlog::TableDef;
+use binlog::{Follow, TableDef};
 use gather::{Changes, Delivery, Image};
 use gtid::{Gtid, GtidSet};
 use sqlite::Alter;
@@ -27,8 +28,8 @@ use store::{ListError, Listed, Store, StoreFault, Visitor};
 /// How taking the rows of a table out has ended.
 #[derive(Debug, Drop)]
 pub enum ClearEnd {
-    /// They were taken out, so many with their copies, and the GTID is executed. Of a table that is read and not kept there
-    /// are none.
+    /// They were taken out, so many with their copies, and the GTID is executed. Of a table that is read and not kept none
+    /// are.
     Cleared(u64),
     /// Nothing has changed: the GTID was executed.
     Repeat,
@@ -143,6 +144,17 @@ fn list_deletes<S: Alter>(
     gathered(listed, rows)
 }
 
+/// How many rows deletes of a table take out: none where its rows are not kept.
+fn rows_out(following: &Follow, schema: &[u8], table: &[u8], changes: &Changes) -> u64
+    ensures { MatchBool (admits following.now schema.now table.now)
+        (result ≡ length changes.now) (result ≡ 0) }
+{
+    if !following.follows(schema, table) {
+        return 0;
+    }
+    changes.len() as u64
+}
+
 /// The end, by what came of a transaction that takes so many rows out.
 fn end_of_clear(rows: u64, answer: Result<bool, Reason>) -> ClearEnd
     ensures { result ≡ end_by rows answer }
@@ -195,7 +207,7 @@ pub(crate) fn clear<S: Alter, W: Observer>(
         Ok(changes) => changes,
         Err(fault) => return ClearEnd::Failed(fault),
     };
-    let rows = changes.len() as u64;
+    let rows = rows_out(store.following(), schema, table, &changes);
     let delivery = Delivery { gtid, changes };
     end_of_clear(rows, apply(store, &delivery, observer))
 }

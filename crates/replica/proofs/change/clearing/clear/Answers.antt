@@ -1,9 +1,9 @@
-use Rattle.std.proofs.Common.{◌≡◌, false, refl, sym, subst}
+use Rattle.std.proofs.Common.{◌≡◌, ◌∙◌, false, refl, sym, subst}
 use Rattle.store.specs.Store.{Holds}
 use Rattle.store.specs.declared.fault.StoreFault.TheVariants as fault
 use Rattle.replica.specs.Copies.{HasJust}
 use Rattle.replica.specs.Clear.{clear_of}
-use Rattle.replica.proofs.ClearStore.{contains_by, reads_by, opened_noted, led_opened, led_applied, stays_whole, repeats, not_followed, other_set, not_listed, ends_by}
+use Rattle.replica.proofs.ClearStore.{contains_by, reads_by, opened_noted, led_opened, led_applied, stays_whole, repeats, not_followed, other_set, not_listed, rows_by, ends_by}
 use Rattle.replica.proofs.Notices.{excludes_by}
 use Rattle.replica.proofs.Keeps.{store_then}
 use Rattle.replica.proofs.change.clearing.clear.Goals as goal
@@ -46,7 +46,7 @@ returns-in-Err-list_deletes-clause-notes g c clean old holds =
 pub returns-clause-clears : goal.returns-clause-clears
 returns-clause-clears g c clean old holds =
     let lists = c.in-Ok.ensures.lists (c.apply.ensures.keeps.store.clean clean) old holds in
-    ends_by g.S.Store (λ h db is_open may. g.met.S.Store.settled h.store db is_open may) c.args.store.now.following (clear_of c.args.schema.now c.args.table.now c.args.gtid c.args.at.now) c.list_deletes.new.store c.apply.new.store old c.len-rows.result c.in-Ok.changes c.apply.result c.end_of_clear.result
+    ends_by g.S.Store (λ h db is_open may. g.met.S.Store.settled h.store db is_open may) c.args.store.now.following (clear_of c.args.schema.now c.args.table.now c.args.gtid c.args.at.now) c.list_deletes.new.store c.apply.new.store old c.rows_out-rows.result c.in-Ok.changes c.apply.result c.end_of_clear.result
     c.end_of_clear.ensures c.list_deletes.ensures.keeps.following c.apply.ensures.keeps.store.following
     (record {
       to_be = record {
@@ -55,7 +55,7 @@ returns-clause-clears g c clean old holds =
       };
       just = subst (λ ids. HasJust ids c.args.at.now) (c.executed-3.ensures.value false old holds) (c.in-Ok-true.ensures.0 c.in-Ok-true.field-0-test);
     })
-    lists.0 c.len-rows.ensures (c.apply.ensures.alone clean old lists.1)
+    lists.0 (rows_by c.args.store.now.following c.following-3.result.now c.args.schema.now c.args.table.now c.rows_out-rows.result c.in-Ok.changes (c.following-3.ensures ∙ c.list_deletes.ensures.keeps.following) c.rows_out-rows.ensures) (c.apply.ensures.alone clean old lists.1)
 
 pub returns-clause-notes : goal.returns-clause-notes
 returns-clause-notes g c clean old holds =
