@@ -20,12 +20,14 @@ pub(crate) mod connection;
 pub(crate) mod followed;
 pub(crate) mod listing;
 pub(crate) mod loaded;
+pub(crate) mod not_opened;
 pub(crate) mod pair;
 pub(crate) mod replaying;
 pub(crate) mod work;
 
 use crate::file::connection::connect_to;
-use crate::file::pair::{CANNOT_OPEN, NotOpened, give_up, open_pair};
+use crate::file::not_opened::{NotOpened, give_up};
+use crate::file::pair::{CANNOT_OPEN, open_pair};
 use binlog::Follow;
 use sqlite::{Connection, Error, FileFrom, FileStore, Files, Leftover, Start};
 use sqlite_disk::Disk;

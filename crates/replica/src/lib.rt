@@ -44,7 +44,7 @@ pub use file::changed::{ChangedFile, change_file};
 pub use file::cleared::{ClearedFile, clear_file};
 pub use file::followed::{FollowedFile, follow_file};
 pub use file::loaded::{LoadedFile, load_file};
-pub use file::pair::NotOpened;
+pub use file::not_opened::NotOpened;
 pub use file::replaying::{Replayed, replay};
 pub use file::work::{InFile, Work, in_file};
 pub use file::{Unopened, close_file, open_file};

@@ -24,7 +24,8 @@ FUNCTIONS = {
         'options': ['sizes'],
         'connect_to': ['options'],
     },
-    'crates/replica/src/file/pair.rt': {'open_pair': ['sqlite_std_file::open']},
+    'crates/replica/src/file/pair.rt': {'open_pair': ['open_both']},
+    'crates/replica/src/file/not_opened.rt': {'open_both': ['sqlite_std_file::open']},
     'crates/replica/src/file/followed.rt': {'follow_file': ['open_file']},
     'crates/replica/src/file/loaded.rt': {'load_file': ['open_file']},
     'crates/replica/src/file/replaying.rt': {'replay': ['open_file']},
@@ -34,6 +35,14 @@ FUNCTIONS = {
 WAYS = r'\b(?:fs|env|process|net|os|thread|libc)::\w+|\bextern\b|\bunsafe\b|\bsqlite_std_file::open\w*'
 # The only use of each.
 USES = {'fs::open': 1, 'sqlite_std_file::open': 1}
+# The one function that might say of files which it has opened that they were not is this call.
+OPENS = ('crates/replica/src/file/not_opened.rt', '''{
+    match sqlite_std_file::open(rt, path, start) {
+        Ok(files) => Ok(files),
+        Err(error) => Err(NotOpened::of(error)),
+    }
+}
+''')
 bad, seen, found = [], {}, {}
 
 for path in sorted(glob.glob(f'{root}/crates/replica/src/**/*.rt', recursive=True) + glob.glob(f'{root}/crates/store/src/**/*.rt', recursive=True)):
@@ -63,6 +72,9 @@ for path in sorted(glob.glob(f'{root}/crates/replica/src/**/*.rt', recursive=Tru
         if len(re.findall(r'\brt\b', body)) != len(calls):
             bad.append(f'{name}: {head.group(1) if head else "it"} uses `rt` otherwise')
 
+with open(f'{root}/{OPENS[0]}', encoding='utf-8') as file:
+    if not file.read().endswith(OPENS[1]):
+        bad.append(f'{OPENS[0]} ends otherwise')
 if {name: set(functions) for name, functions in seen.items()} != {name: set(functions) for name, functions in FUNCTIONS.items()}:
     bad.append(f'a HostRuntime has {seen}')
 if found != FUNCTIONS:

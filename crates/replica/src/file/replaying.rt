@@ -10,7 +10,7 @@ ghost use Rattle.replica.specs.Replay.{Replays};
 ghost use Rattle.replica.specs.declared.session.end.Reason.TheVariants.{Until};
 ghost use Rattle.replica.specs.Capture.{HeedsObserver};
 
-use crate::file::pair::{NO_MEMORY, give_up};
+use crate::file::not_opened::{NO_MEMORY, give_up};
 use crate::file::{Unopened, close_file, open_file};
 use crate::observer::Observer;
 use crate::session::config::Config;
