@@ -84,7 +84,7 @@ impl<R: BufRead> Deliveries for CopiedRows<R> {
     type Error = RowsFault;
 
     ghost supply = { λ c. within c.names (supply_of (c.changed || c.loader.failed) c.loader.ended
-        c.loader.taker.description.tables.items c.loader.source c.loader.given c.loader.rows
+        c.loader.taker.description.value.tables.items c.loader.source c.loader.given c.loader.rows
         (prepend_known c.loader.line.items (R.Read.remaining c.loader.reader))) };
 
     /// Clauses:

@@ -14,6 +14,7 @@ use gtid::Gtid;
 use sha1::Sha1;
 use std::alloc::Global;
 use std::io::BufRead;
+use std::rc::Rc;
 
 /// How many bytes the lines of a transaction have at least, unless the end comes before.
 pub const CHUNK: usize = 1 << 23;
@@ -52,7 +53,7 @@ impl<R: BufRead> Loader<R> {
     /// this source. The only errors are out of memory.
     pub fn new(
         alloc: Global,
-        description: Description,
+        description: Rc<Description>,
         source: [u8; 16],
         reader: R,
     ) -> Result<Loader<R>, CopyFault>
@@ -101,12 +102,12 @@ impl<R: BufRead> Loader<R> {
 
     /// Takes the lines of the next rows: 8 MiB or more of them, or those before the line at the end, which is held then.
     fn collect(&mut self) -> Result<(Changes, Option<u64>), CopyFault>
-        ensures collected { IfOk result (λ got. IsCollected self.old.taker.description.tables.items
+        ensures collected { IfOk result (λ got. IsCollected self.old.taker.description.value.tables.items
             self.old.rows self.new.rows
             (prepend_known self.old.line.items (R.Read.remaining self.old.reader))
             (prepend_known self.new.line.items (R.Read.remaining self.new.reader))
             self.old.hasher self.new.hasher self.new.line.items got.0 got.1) }
-        ensures fault { IfErr result (IsKnownFault self.old.taker.description.tables.items
+        ensures fault { IfErr result (IsKnownFault self.old.taker.description.value.tables.items
             self.old.rows (prepend_known self.old.line.items
             (R.Read.remaining self.old.reader))) }
         ensures kept { (self.new.taker.description ≡ self.old.taker.description)
@@ -158,7 +159,7 @@ impl<R: BufRead> Loader<R> {
             (prepend_known self.old.line.items (R.Read.remaining self.old.reader))
             self.old.hasher self.new.hasher) }
         ensures ended { OnOk result (self.new.ended ≡ true) }
-        ensures fault { IfErr result (IsKnownFault self.old.taker.description.tables.items
+        ensures fault { IfErr result (IsKnownFault self.old.taker.description.value.tables.items
             self.old.rows (prepend_known self.old.line.items
             (R.Read.remaining self.old.reader))) }
         ensures kept { (self.new.taker.description ≡ self.old.taker.description)
@@ -188,7 +189,7 @@ impl<R: BufRead> Loader<R> {
     /// The next transaction, or the end.
     fn step(&mut self) -> Result<Option<Delivery>, CopyFault>
         ensures given { IfOk result (λ found. IfSome found (λ d.
-            IsGiven self.old.taker.description.tables.items self.old.source self.old.given
+            IsGiven self.old.taker.description.value.tables.items self.old.source self.old.given
             self.old.rows self.new.given self.new.rows
             (prepend_known self.old.line.items (R.Read.remaining self.old.reader))
             (prepend_known self.new.line.items (R.Read.remaining self.new.reader))
@@ -199,7 +200,7 @@ impl<R: BufRead> Loader<R> {
             self.old.hasher self.new.hasher)) }
         ensures ended { IfOk result (λ found. IfNone found (self.new.ended ≡ true)) }
         ensures going { IfOk result (λ found. IfSome found (λ _. self.new.ended ≡ self.old.ended)) }
-        ensures fault { IfErr result (IsKnownFault self.old.taker.description.tables.items
+        ensures fault { IfErr result (IsKnownFault self.old.taker.description.value.tables.items
             self.old.rows (prepend_known self.old.line.items
             (R.Read.remaining self.old.reader))) }
         ensures kept { (self.new.taker.description ≡ self.old.taker.description)
@@ -230,7 +231,7 @@ impl<R: BufRead> Loader<R> {
     ///   call fails
     pub fn next(&mut self) -> Result<Option<Delivery>, CopyFault>
         ensures given { IfOk result (λ found. IfSome found (λ d.
-            IsGiven self.old.taker.description.tables.items self.old.source self.old.given
+            IsGiven self.old.taker.description.value.tables.items self.old.source self.old.given
             self.old.rows self.new.given self.new.rows
             (prepend_known self.old.line.items (R.Read.remaining self.old.reader))
             (prepend_known self.new.line.items (R.Read.remaining self.new.reader))
@@ -244,7 +245,7 @@ impl<R: BufRead> Loader<R> {
             × (self.new.ended ≡ false))) }
         ensures after_end { self.old.ended ≡ true → IfOk result (λ found. found ≡ None) }
         ensures fault { self.old.failed ≡ false →
-            IfErr result (IsKnownFault self.old.taker.description.tables.items
+            IfErr result (IsKnownFault self.old.taker.description.value.tables.items
             self.old.rows (prepend_known self.old.line.items
             (R.Read.remaining self.old.reader))) }
         ensures failed { OnErr result (self.new.failed ≡ true) }

@@ -16,15 +16,15 @@ use std::rc::Rc;
 /// What makes the changes of lines: the described tables, and a table of changes for each.
 #[derive(Debug, Drop)]
 pub(crate) struct RowTaker {
-    pub(crate) description: Description,
+    pub(crate) description: Rc<Description>,
     tables: Vec<Rc<TableDef>>,
     cells: RowReader,
-    ghost schemas: { defined_schemas tables.items ≡ described_schemas description.tables.items },
-    ghost names: { defined_names tables.items ≡ described_names description.tables.items },
+    ghost schemas: { defined_schemas tables.items ≡ described_schemas description.value.tables.items },
+    ghost names: { defined_names tables.items ≡ described_names description.value.tables.items },
 }
 
 impl RowTaker {
-    pub(crate) fn new(alloc: Global, description: Description) -> Result<RowTaker, RowFault>
+    pub(crate) fn new(alloc: Global, description: Rc<Description>) -> Result<RowTaker, RowFault>
         ensures kept { IfOk result (λ made. made.description ≡ description) }
         ensures err { IfErr result (λ fault. fault ≡ RowFault.Memory) }
     {
@@ -43,9 +43,9 @@ impl RowTaker {
         line: &[u8],
         changes: &mut Changes,
     ) -> Result<(), RowFault>
-        ensures taken { OnOk result (IsLineTaken self.old.description.tables.items line.now
+        ensures taken { OnOk result (IsLineTaken self.old.description.value.tables.items line.now
             changes.old changes.new) }
-        ensures fault { IfErr result (IsRowFault self.old.description.tables.items line.now) }
+        ensures fault { IfErr result (IsRowFault self.old.description.value.tables.items line.now) }
         ensures kept { self.new.description ≡ self.old.description }
     {
         let (place, image) = self.cells.read(alloc, &self.description, line)?;

@@ -20,6 +20,7 @@ use replica::FirstCopy;
 use std::alloc::{AllocError, Global};
 use std::io;
 use std::io::{BufRead, Write};
+use std::rc::Rc;
 
 /// The rows of a table in a copy.
 #[derive(Drop)]
@@ -121,6 +122,16 @@ fn copy_of(alloc: Global, names: &Follow) -> Result<Follow, CopyFault>
     }
 }
 
+/// The same description once more.
+fn same(description: &Rc<Description>) -> Result<Rc<Description>, CopyFault>
+    ensures { IfOk result (λ copy. copy.value ≡ description.now.value) }
+{
+    match description.clone() {
+        Ok(copy) => Ok(copy),
+        Err(_) => Err(CopyFault::Memory),
+    }
+}
+
 /// The first GTID of the source of a copy with this executed set and this digest of the lines after its head.
 fn first_gtid(alloc: Global, executed: &GtidSet, digest: &[u8; 20]) -> Result<Gtid, CopyFault>
     ensures first { IfOk result (λ gtid. gtid.number ≡ 1) }
@@ -142,6 +153,8 @@ fn first_gtid(alloc: Global, executed: &GtidSet, digest: &[u8; 20]) -> Result<Gt
 /// the digest of the lines so far.
 #[derive(Drop)]
 pub struct Summary {
+    /// The tables that were described as it was read.
+    description: Rc<Description>,
     executed: GtidSet,
     /// The first GTID of its source.
     first: Gtid,
@@ -156,17 +169,20 @@ impl Summary {
     /// Clauses:
     /// - `source`, `first`: the source of the transactions is the UUID of version 5 of the set and of the lines' SHA-1
     ///   (`copy_source`); its first number is 1
+    /// - `described`: it keeps the description
     pub fn of<R: BufRead + Drop>(
         alloc: Global,
-        description: Description,
+        description: Rc<Description>,
         mut reader: R,
     ) -> Result<Summary, CopyFault>
         ensures source { IfOk result (λ made. HasCopySource made.executed made.first.source
             (R.Read.remaining reader)) }
         ensures first { IfOk result (λ made. made.first.number ≡ 1) }
+        ensures described { IfOk result (λ made. made.description ≡ description) }
     {
         let executed = read_head(alloc, &mut reader)?;
-        let mut loader = Loader::new(alloc, description, [0; 16], reader)?;
+        let again = same(&description)?;
+        let mut loader = Loader::new(alloc, again, [0; 16], reader)?;
         let mut tallied = Tallied {
             alloc,
             tables: Vec::new(alloc),
@@ -181,6 +197,7 @@ impl Summary {
             ..
         } = tallied;
         Ok(Summary {
+            description,
             executed,
             first,
             names,
@@ -214,14 +231,13 @@ impl Summary {
         Ok(())
     }
 
-    /// Its transactions, read once more. They are those of the copy that was read before, or not given.
+    /// Its transactions, read once more, by the same description. They are those of the copy that was read before, or not given.
     ///
     /// Clauses:
     /// - `begin`, `names`, `described`, `text`: a loader of the same that has given nothing
     pub fn rows<R: BufRead + Drop>(
         &self,
         alloc: Global,
-        description: Description,
         mut reader: R,
     ) -> Result<CopiedRows<R>, CopyFault>
         // No transaction was given yet, and the first one that comes is the copy's.
@@ -230,11 +246,13 @@ impl Summary {
             × (made.loader.source ≡ self.now.first.source)) }
         // Their rows are of the tables of the copy.
         ensures names { IfOk result (λ made. made.names ≡ self.now.names) }
-        ensures described { IfOk result (λ made. made.loader.taker.description ≡ description) }
+        ensures described { IfOk result (λ made. made.loader.taker.description.value
+            ≡ self.now.description.value) }
         ensures text { IfOk result (λ made. FollowsHead (R.Read.remaining reader)
             (prepend_known made.loader.line.items (R.Read.remaining made.loader.reader))) }
     {
         let _ = read_head(alloc, &mut reader)?;
+        let description = same(&self.description)?;
         let loader = Loader::new(alloc, description, self.first.source, reader)?;
         let names = copy_of(alloc, &self.names)?;
         let mut digests = Vec::new(alloc);

@@ -3,13 +3,13 @@
 use crate::database::description::read_description;
 use crate::report::failure::{Failure, of_copy, of_system, over_argument, over_file, unusable};
 use clap::ArgMatches;
-use columns::Description;
 use command_line::{parse_digest, word};
 use files::{INPUT, Input, KeptInput};
 use first_copy::{CopiedRows, CopyFault, Summary, text_digest};
 use std::alloc::Global;
 use std::io;
-use std::io::{BufReader, Read};
+use std::io::BufReader;
+use std::rc::Rc;
 use watch::{Metered, Pulse};
 
 /// How many bytes are read at a time for the SHA-1.
@@ -70,11 +70,12 @@ impl<'a> CopyFile<'a> {
         Err(unusable(rt.alloc(), self.name, OTHER))
     }
 
-    /// Reads the copy to its end. Returns how many bytes it has, too.
+    /// Reads the copy to its end, by the description. Returns how many bytes it has, too.
     pub fn summary(&self, rt: &HostRuntime) -> Result<(Summary, u64), Failure> {
         let (input, size) = self.open(rt)?;
-        let (description, reader) = self.begin(rt, input)?;
         let alloc = rt.alloc();
+        let reader = self.used(alloc, BufReader::new(alloc, input))?;
+        let description = Rc::new(alloc, read_description(rt, self.columns)?)?;
         let summary = self.read(alloc, Summary::of(alloc, description, reader))?;
         Ok((summary, size))
     }
@@ -87,9 +88,9 @@ impl<'a> CopyFile<'a> {
         pulse: &'r Pulse,
     ) -> Result<CopiedRows<BufReader<Metered<'r, Input>>>, Failure> {
         let (input, _) = self.open(rt)?;
-        let (description, reader) = self.begin(rt, Metered::new(rt, input, pulse))?;
         let alloc = rt.alloc();
-        self.read(alloc, summary.rows(alloc, description, reader))
+        let reader = self.used(alloc, BufReader::new(alloc, Metered::new(rt, input, pulse)))?;
+        self.read(alloc, summary.rows(alloc, reader))
     }
 
     /// Opens what has it. Returns how many bytes it has, too.
@@ -104,18 +105,6 @@ impl<'a> CopyFile<'a> {
             Some(size) => Ok((input, size)),
             None => Err(unusable(alloc, name, TWICE)),
         }
-    }
-
-    /// The description, and a reader of the open file.
-    fn begin<R: Read + Drop>(
-        &self,
-        rt: &HostRuntime,
-        input: R,
-    ) -> Result<(Description, BufReader<R>), Failure> {
-        let alloc = rt.alloc();
-        let reader = self.used(alloc, BufReader::new(alloc, input))?;
-        let description = read_description(rt, self.columns)?;
-        Ok((description, reader))
     }
 
     /// What the system answered over it, whose failure names it.

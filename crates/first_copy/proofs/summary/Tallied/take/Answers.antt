@@ -17,6 +17,6 @@ loop-preserved g c = record {
       let l = c.loop.loader in
       let after = c.next.new.self in
       let it = of_some c.in_ok-next.next c.is_none.result _ c.is_none.ensures c.if-is_none.false c.in_ok-next.ensures.given in
-      one_taken l.taker.description.tables.items l.source l.given l.rows after.given after.rows (delivery_value it.0) (prepend_known c.args.loader.now.line.items (g.R.Read.remaining c.args.loader.now.reader)) (prepend_known l.line.items (g.R.Read.remaining l.reader))
+      one_taken l.taker.description.value.tables.items l.source l.given l.rows after.given after.rows (delivery_value it.0) (prepend_known c.args.loader.now.line.items (g.R.Read.remaining c.args.loader.now.reader)) (prepend_known l.line.items (g.R.Read.remaining l.reader))
       (prepend_known after.line.items (g.R.Read.remaining after.reader)) c.args.loader.now.hasher l.hasher after.hasher (c.loop.invariant.taken on) it.1;
 }
