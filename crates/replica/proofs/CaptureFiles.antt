@@ -20,7 +20,7 @@ use Rattle.replica.specs.Replay.{LeadsTo, MayLeave}
 use Rattle.replica.specs.Conn.{StoreState}
 use Rattle.replica.specs.FollowFile.{StreamView, Connects, MayHold, FollowsFile}
 use Rattle.replica.proofs.CaptureList.{reads_weaker}
-use Rattle.replica.proofs.WaitSets.{has_reached}
+use Rattle.replica.proofs.WaitSets.{has_reached, left_has}
 
 -- what a database at rest has committed is opened as its content
 rest_left : (s : State) (names : Names) (content : Content) → IsAtRest s names content → (only : Names) → IsLeft only names content s.committed.trees
@@ -213,4 +213,6 @@ reached_in_files names old was is ends wanted (Ok files) noted wants none = λ h
     (n.0, n.1, has_reached names old n.0 was is ends wanted n.2 wants none)
 reached_in_files names old was is ends wanted (Err e) noted wants none = λ honest.
     let n = noted honest in
-    (n.0, has_reached names old n.0 was is ends wanted n.1 wants none)
+    (n.0, has_reached names old n.0 was is ends wanted n.1 wants none, λ trees may.
+      let it = n.2 trees may in
+      (it.0, left_has names n.1.noted_of.notices n.0 it.0 it.1, it.2))

@@ -1,7 +1,8 @@
 -- What is missing of a set after transactions were applied.
-use Rattle.replica.proofs.Names.{◌≡◌, ◌⊎◌, ◌+◌, ◌∷◌, ◌++◌, [], List, Option, Some, None, Result, Ok, Err, Bool, true, false, ◌||◌, ◌&&◌, not, inl, inr, refl, sym, ap, subst, ◌∙◌, if◌then◌else◌, false≢true, false_from_ne_true, or_right, Ids, id_cmp_total, Names, DeliveryValue, Content, HasOutcome, done, Reason, Ended, is_over, waits_for_none, Notice, stopped, ended, LeadsBy, StillWaits, WereMissed, WasMissing, Account, BeginsWith, IsNotedSinceOpening}
+use Rattle.replica.proofs.Names.{◌≡◌, ◌⊎◌, ◌+◌, ◌∷◌, ◌++◌, [], List, Option, Some, None, Result, Ok, Err, Bool, true, false, ◌||◌, ◌&&◌, not, inl, inr, refl, sym, ap, subst, ◌∙◌, if◌then◌else◌, false≢true, false_from_ne_true, or_right, Ids, id_cmp_total, Names, DeliveryValue, Content, HasOutcome, done, Reason, Ended, is_over, waits_for_none, Notice, stopped, ended, LeadsBy, StillWaits, WereMissed, WasMissing, Account, BeginsWith, IsNotedSinceOpening, IsOneMoreNoted, IsLeftOfNoted}
 use Rattle.std.specs.FinSet as set
 use Rattle.replica.specs.Missing.{IsLeftOf}
+use Rattle.replica.proofs.Transactions.{still}
 use Rattle.replica.specs.Noted.{opened, before, after, HasBeenNoted, missing_after, AreMissed, IsNotedOf, EndsWithLast, HasReached}
 use Rattle.replica.proofs.MissingSets.{removed, again, removed_within, either_first, without_one, without_absent, none_left, none_removed, within, not_both}
 use Rattle.replica.proofs.Notices.{unchanged}
@@ -185,3 +186,17 @@ apart_noted false was is notices h = h
 pub done_stops : (missing : Option Ids) → waits_for_none missing ≡ true → is_over missing ≡ true
 done_stops None none = refl
 done_stops (Some ids) none = none
+
+-- what is left has executed what the content has
+one_more_has : (names : Names) (new : Content) (notices : List Notice) (left : Content) → IsOneMoreNoted names new notices left → set.is_subset new.executed left.executed ≡ true
+one_more_has names new [] left more = absurd more
+one_more_has names new (before d ∷ notices) left (inl it) = set.contains-is_subset id_cmp_total new.executed left.executed (λ q has. ap (λ s. set.contains s q) it.1.2 ∙ still new.executed (d.source, d.number) q has)
+one_more_has names new (before d ∷ notices) left (inr more) = one_more_has names new notices left more
+one_more_has names new (after d answer ∷ notices) left more = one_more_has names new notices left more.1
+one_more_has names new (opened ids ∷ notices) left more = one_more_has names new notices left more
+one_more_has names new (stopped d ∷ notices) left more = one_more_has names new notices left more
+one_more_has names new (ended end goes_on ∷ notices) left more = one_more_has names new notices left more
+
+pub left_has : (names : Names) (notices : List Notice) (new left : Content) → IsLeftOfNoted names notices new left → set.is_subset new.executed left.executed ≡ true
+left_has names notices new left (inl same) = set.contains-is_subset id_cmp_total new.executed left.executed (λ q has. ap (λ (c : Content). set.contains c.executed q) same ∙ has)
+left_has names notices new left (inr more) = one_more_has names new notices left more

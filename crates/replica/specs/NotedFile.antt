@@ -8,6 +8,7 @@ use Rattle.sqlite_trees.specs.View.{IsClean}
 use Rattle.sqlite_store.specs.declared.store.FileStore.{FileStore}
 use Rattle.sqlite_store.specs.FileStore.{view}
 use Rattle.sqlite.specs.declared.error.Error.{Error}
+use Rattle.std.specs.FinSet as set
 use Rattle.gtid.specs.Identifier.{Ids}
 use Rattle.binlog.specs.Filter.{Names}
 use Rattle.store.specs.State.{Content}
@@ -19,11 +20,11 @@ use Rattle.replica.specs.File.{OfHeld, AreClosedWith, KeepsContent}
 use Rattle.replica.specs.FollowFile.{MayHold, CountsFailures}
 use Rattle.replica.specs.Noted.{Account, IsAsked, IsLeftOfNoted, IsNotedSinceOpening, HasReached}
 
--- The closed files hold a content of this kind; where they could not be closed, the database had come to one.
+-- The closed files hold a content of this kind; files that could not be closed are left with one, or with more that is executed.
 abbrev pub ComeTo : {D : Type 0} {g : Ghosts D} → Names → (Content → Type 0) → Result (Files D) (Error × FileStore D g) → Type 0
 ComeTo {D} {g} names Is closed = MatchResult closed
     (λ files. AreClean g files.log files.db → (new : Content) × AreClosedWith g names new files × Is new)
-    (λ e. IsClean (view e.1) → (new : Content) × Is new)
+    (λ e. IsClean (view e.1) → (new : Content) × Is new × MayHold names e.1 (λ left. set.is_subset new.executed left.executed ≡ true))
 
 -- What was reported to an observer since the opening leads from this content to the one that the closed files hold. Files that could
 -- not be closed may be left with that content, or with one transaction more, which was reported before it.
