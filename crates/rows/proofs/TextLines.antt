@@ -39,6 +39,6 @@ module _ {W : Type 0} (contents : W → Option (List ℕ)) where
     | inl asked ↦ subst (λ (v : TextRows W). HasLines contents content.rows v new) asked.1.1 (by_hands E content asked.0 new asked.2)
     | inr other ↦ elim other [
       | inl none ↦ absurd (false≢true none.0.0)
-      | inr failed ↦ absurd (cc)
+      | inr failed ↦ absurd failed.1
     ]
   ]

@@ -19,8 +19,9 @@ WritesLine contents old e (Ok u) new =
 WritesLine contents old e (Err cause) new = Unit {0}
 
 -- All rows are asked for, and nothing was written.
-abbrev pub AsksForRows : {W : Type 0} → TextRows W → Ids → Names → Bool → TextRows W → Type 0
-AsksForRows old executed names asks new = (asks ≡ true) × (new ≡ old)
+abbrev pub AsksForRows : {W E : Type 0} → TextRows W → Ids → Names → Result Bool E → TextRows W → Type 0
+AsksForRows old executed names (Ok asks) new = (asks ≡ true) × (new ≡ old)
+AsksForRows old executed names (Err cause) new = ⊥
 
 -- the lines of the rows of a list whose tables are asked for
 abbrev pub row_lines : Names → List Entry → List ℕ

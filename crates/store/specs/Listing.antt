@@ -166,10 +166,10 @@ pub record ListsHeld {V F : Type 0} (gives : V → Entry → Result (Unit {0}) F
   pub autocommit : old.in_transaction ≡ false → new.in_transaction ≡ false
 
 -- The executed set and the filter of a content were given to a lister: it has asked for the rows, and they were handed to it; or it
--- has not, and nothing more was; or it has answered an error. `begun v ids names asks w`: the lister v accepts a set and a filter, asks
--- for rows or not, and is w afterwards; `gives` says of rows what it answers and what it is afterwards.
-abbrev pub IsListed : {V E : Type 0} → (V → Ids → Names → Bool → V → Type 0) → (V → Entry → Result (Unit {0}) E → V → Type 0)
+-- has not, or has answered an error, and nothing more was. `begun v ids names answer w`: the lister v is given a set and a filter, asks
+-- for rows or not, or answers an error, and is w afterwards; `gives` says of rows what it answers and what it is afterwards.
+abbrev pub IsListed : {V E : Type 0} → (V → Ids → Names → Result Bool E → V → Type 0) → (V → Entry → Result (Unit {0}) E → V → Type 0)
     → Names → Content → V → V → Result (Unit {0}) (ListError E) → Type 0
 IsListed {V} {E} begun gives names content old new listed =
-    ((mid : V) × begun old content.executed names true mid × Hands gives content.rows mid new listed)
-    ⊎ ((begun old content.executed names false new × (listed ≡ Ok tt)) ⊎ ((cause : E) × (listed ≡ Err (VisitorError cause))))
+    ((mid : V) × begun old content.executed names (Ok true) mid × Hands gives content.rows mid new listed)
+    ⊎ ((begun old content.executed names (Ok false) new × (listed ≡ Ok tt)) ⊎ ((cause : E) × begun old content.executed names (Err cause) new × (listed ≡ Err (VisitorError cause))))

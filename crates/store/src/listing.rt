@@ -51,12 +51,12 @@ pub trait Visitor {
 
 /// What a database is read by: it is given the executed set and the filter, and then the rows, if it asks for them.
 pub trait Lister: Visitor {
-    // Where it accepts a set and a filter: whether it asks for the rows, and what it is afterwards.
-    ghost begun: { Self → Ids → Names → Bool → Self → Type 0 };
+    // Where it is given a set and a filter: whether it asks for the rows, or its error; and what it is afterwards.
+    ghost begun: { Self → Ids → Names → Result Bool Self.Error → Self → Type 0 };
 
     /// Accepts the executed set and the filter. Returns whether it asks for the rows. An error ends the list.
     fn begin(&mut self, executed: &GtidSet, following: &Follow) -> Result<bool, Self::Error>
-        ensures { IfOk result (λ asks. begun self.old executed.now following.now asks self.new) };
+        ensures { begun self.old executed.now following.now result self.new };
 }
 
 /// Why a list was not read to its end.

@@ -1,4 +1,4 @@
-use Rattle.replica.proofs.Names.{◌≡◌, inl, inr, Bool, false, refl, subst, Ids, Names}
+use Rattle.replica.proofs.Names.{◌≡◌, ◌∙◌, inl, inr, Bool, true, false, Result, Ok, ap, refl, subst, Ids, Names}
 use Rattle.replica.proofs.ClearStore.{stays_whole, stays_listed}
 use Rattle.replica.proofs.file.listing.list.Goals as goal
 
@@ -8,9 +8,9 @@ returns-in-Ok-true-clause-lists g c clean content holds = record {
   leads = (
     inl (
       c.begin.new.self,
-      subst (λ (asks : Bool). g.L.Lister.begun c.args.lister.now content.executed c.args.store.now.following asks c.begin.new.self) c.in-Ok-true.field-0-test
-          (subst (λ (names : Names). g.L.Lister.begun c.args.lister.now content.executed names c.in-Ok-true.field-0 c.begin.new.self) c.following.ensures
-          (subst (λ (ids : Ids). g.L.Lister.begun c.args.lister.now ids c.following.result.now c.in-Ok-true.field-0 c.begin.new.self) (c.executed.ensures.value false content holds) c.in-Ok-true.ensures)),
+      subst (λ r. g.L.Lister.begun c.args.lister.now content.executed c.args.store.now.following r c.begin.new.self) (c.in-Ok-true.is ∙ ap Ok c.in-Ok-true.field-0-test)
+          (subst (λ (names : Names). g.L.Lister.begun c.args.lister.now content.executed names c.begin.result c.begin.new.self) c.following.ensures
+          (subst (λ (ids : Ids). g.L.Lister.begun c.args.lister.now ids c.following.result.now c.begin.result c.begin.new.self) (c.executed.ensures.value false content holds) c.begin.ensures)),
       (c.list.ensures.lists clean content holds).0,
     ),
     refl,
@@ -24,9 +24,9 @@ returns-in-Ok-false-clause-lists g c clean content holds = record {
   new = content;
   leads = (
     inr (inl (
-      subst (λ (asks : Bool). g.L.Lister.begun c.args.lister.now content.executed c.args.store.now.following asks c.begin.new.self) c.in-Ok-false.field-0-test
-          (subst (λ (names : Names). g.L.Lister.begun c.args.lister.now content.executed names c.in-Ok-false.field-0 c.begin.new.self) c.following.ensures
-          (subst (λ (ids : Ids). g.L.Lister.begun c.args.lister.now ids c.following.result.now c.in-Ok-false.field-0 c.begin.new.self) (c.executed.ensures.value false content holds) c.in-Ok-false.ensures)),
+      subst (λ r. g.L.Lister.begun c.args.lister.now content.executed c.args.store.now.following r c.begin.new.self) (c.in-Ok-false.is ∙ ap Ok c.in-Ok-false.field-0-test)
+          (subst (λ (names : Names). g.L.Lister.begun c.args.lister.now content.executed names c.begin.result c.begin.new.self) c.following.ensures
+          (subst (λ (ids : Ids). g.L.Lister.begun c.args.lister.now ids c.following.result.now c.begin.result c.begin.new.self) (c.executed.ensures.value false content holds) c.begin.ensures)),
       refl,
     )),
     refl,
@@ -37,6 +37,15 @@ returns-in-Ok-false-clause-lists g c clean content holds = record {
 pub returns-in-Err-clause-lists : goal.returns-in-Err-clause-lists
 returns-in-Err-clause-lists g c clean content holds = record {
   new = content;
-  leads = (inr (inr (c.in-Err.cause, refl)), refl);
+  leads = (
+    inr (inr (
+      c.in-Err.cause,
+      subst (λ r. g.L.Lister.begun c.args.lister.now content.executed c.args.store.now.following r c.begin.new.self) c.in-Err.is
+          (subst (λ (names : Names). g.L.Lister.begun c.args.lister.now content.executed names c.begin.result c.begin.new.self) c.following.ensures
+          (subst (λ (ids : Ids). g.L.Lister.begun c.args.lister.now ids c.following.result.now c.begin.result c.begin.new.self) (c.executed.ensures.value false content holds) c.begin.ensures)),
+      refl,
+    )),
+    refl,
+  );
   stays = stays_whole g.S.Store (λ h db is_open may. g.met.S.Store.settled h.store db is_open may) c.args.store.now content (λ left. left ≡ content) refl holds;
 }
