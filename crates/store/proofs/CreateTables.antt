@@ -1,5 +1,5 @@
 -- What each statement that makes the tables does, where it succeeds.
-use Rattle.store.proofs.Names.{◌≡◌, inl, inr, ℕ, ◌++◌, codes, pos, List, [], ◌∷◌, false, true, cond, map, filter, None, Ok, Err, Result, OnOk, refl, sym, ap, subst, ◌∙◌, AllByRecursion, list_any, IsPermutation, IsPermutation-map, list_any-IsPermutation, eq_by_cmp, Null, Int, Text, Blob, Row, Table, Schema, table_named, created, next_tree, KeepsRows, edit_of, are_fresh, is_taken, next_rowid, put_all, Chosen, Trees, put_row, all-put_row, Error, Database, IsDatabase, Tally, lacks_sequence, all_has, State, ExecutesInside, Executes, IsPlain, command_of, runs_as, Names, name_cmp_total, name_cmp-same, meta, held, spans, spans_text, follow, follow_text, IsVacant, IsLaidOut, meta_at, held_at, follow_at, meta_tree, held_tree, spans_tree, follow_tree, AreNames, IsFollowRow, name_in, meta_rows, held_rows, span_rows, follow_rows, IsNaming, with_tables, LiesBeside, has_other_key}
+use Rattle.store.proofs.Names.{◌≡◌, inl, inr, ℕ, ◌++◌, codes, pos, List, [], ◌∷◌, false, true, cond, map, filter, None, Ok, Err, Result, OnOk, refl, sym, ap, subst, ◌∙◌, AllByRecursion, list_any, IsPermutation, IsPermutation-map, list_any-IsPermutation, eq_by_cmp, Null, Int, Text, Blob, Row, Table, Schema, table_named, created, next_tree, KeepsRows, edit_of, are_fresh, is_taken, next_rowid, put_all, Chosen, Trees, put_row, all-put_row, Error, Database, IsDatabase, Tally, lacks_sequence, all_has, State, ExecutesInside, Executes, IsPlain, command_of, runs_as, Names, name_cmp_total, name_cmp-same, meta, held, spans, spans_text, follow, follow_text, IsVacant, IsLaidOut, meta_at, held_at, follow_at, meta_tree, held_tree, spans_tree, follow_tree, AreNames, IsFollowRow, IsHeldRow, HasRowids, name_in, meta_rows, held_rows, span_rows, follow_rows, IsNaming, IsWorking, with_tables, LiesBeside, has_other_key}
 use Rattle.std.specs.FinSet as set
 use Rattle.sqlite_schema.specs.declared.command.Command.TheVariants.{CreateTable}
 use Rattle.sqlite_schema.specs.Names.{same_name}
@@ -9,6 +9,7 @@ use Rattle.sqlite.specs.State.{Writes}
 use Rattle.sqlite.proofs.Callers.{statement_of}
 use Rattle.binlog.specs.Filter.{Name, name_cmp}
 use Rattle.store.specs.Layout.{meta_text, held_text, spans_at}
+use Rattle.store.specs.Inside.{StoresNames}
 use Rattle.store.specs.Making.{IsMaking, layout_row, trees_of, with_meta, with_held, with_spans, new_layout, layout_text, layout_terms, add_name_text, add_name_terms}
 use Rattle.store.proofs.Beside.{made, laid_out, meta_at_one, meta_at_two, meta_at_three, meta_at_base, held_at_one, spans_at_two, follow_at_three, counted_base, counted_one, counted_two, counted_three}
 use Rattle.store.proofs.AnyCreateTable.{MakesTable, runs_made, meta_makes, held_makes, spans_makes, follow_makes, layout_means, add_name_means}
@@ -246,3 +247,40 @@ names_one old new names name count was h =
 pub done_name : (old new : State) (names : Names) (name : Name) (r : Result ℕ Error) → IsNaming names old → ExecutesInside 0 add_name_text (Blob name.0 ∷ Blob name.1 ∷ []) old new r → OnOk r (IsNaming (set.insert names name) new)
 done_name old new names name (Ok count) was h = names_one old new names name count was h.0
 done_name old new names name (Err e) was h = tt
+
+-- the same in a database that has rows
+names_more : (old new : State) (names : Names) (name : Name) (count : ℕ) → IsWorking old → AreNames (follow_rows old.now) names → Executes add_name_text (Blob name.0 ∷ Blob name.1 ∷ []) old new (Ok count) → StoresNames old new (set.insert names name)
+names_more old new names name count was were h =
+    let l = was.laid_out in
+    let schema = old.now.schema in
+    let rows = follow_rows old.now in
+    let a = named old new l name count h in
+    let edit = edit_of old.now.trees (follow_at schema) [] Chosen 0 ((Null ∷ Blob name.0 ∷ Blob name.1 ∷ []) ∷ []) in
+    let news = news_named old.now.trees (follow_tree schema) name in
+    let free : is_taken rows (new_name rows name) ≡ false = fresh_alone rows (new_name rows name) (ap (are_fresh rows) (sym news) ∙ a.step.fresh) in
+    let meta_is : meta_rows new.now ≡ meta_rows old.now = same_rows old new (codes "meta") a.schema_is (stays schema l.meta.at (meta_at schema) old.now.trees new.now.trees edit l.meta.found a.step (λ same. follow_meta schema l (sym same))) in
+    let held_is : held_rows new.now ≡ held_rows old.now = same_rows old new (codes "held") a.schema_is (stays schema l.held.at (held_at schema) old.now.trees new.now.trees edit l.held.found a.step (λ same. follow_held schema l (sym same))) in
+    let spans_is : span_rows new.now ≡ span_rows old.now = same_rows old new (codes "spans") a.schema_is (stays schema l.spans.at (spans_at schema) old.now.trees new.now.trees edit l.spans.found a.step (λ same. follow_spans schema l (sym same))) in
+    let follow_is : follow_rows new.now ≡ put_row (new_name rows name) rows = ap (λ s. new.now.trees (follow_tree s)) a.schema_is ∙ a.step.rows ∙ ap (put_all rows) news in
+    record {
+      working = record {
+        is_open = a.shown.is_open;
+        inside = a.shown.mode ∙ was.inside;
+        laid_out = subst IsLaidOut (sym a.schema_is) l;
+        held_apart = subst HasRowids (sym held_is) was.held_apart;
+        spans_apart = subst HasRowids (sym spans_is) was.spans_apart;
+        lawful = subst (AllByRecursion IsHeldRow) (sym held_is) was.lawful;
+        sound = a.sound;
+        beside = still_beside old new edit l.follow.at was.inside was.beside was.sound a l.follow.found (own_follow old.committed.schema) (keys_same old.now new.now a.schema_is meta_is);
+      };
+      schema = a.schema_is;
+      committed = a.shown.committed_is ∙ ap (λ b. cond b old.committed new.now) was.inside;
+      meta = meta_is;
+      held = held_is;
+      spans = spans_is;
+      names_are = rw follow_is (named_put rows names name free were);
+    }
+
+pub done_added : (old new : State) (names : Names) (name : Name) (r : Result ℕ Error) → IsWorking old → AreNames (follow_rows old.now) names → ExecutesInside 0 add_name_text (Blob name.0 ∷ Blob name.1 ∷ []) old new r → OnOk r (StoresNames old new (set.insert names name))
+done_added old new names name (Ok count) was were h = names_more old new names name count was were h.0
+done_added old new names name (Err e) was were h = tt

@@ -30,6 +30,7 @@ pub mod PlainQueries
 pub mod CreateTables
 pub mod NewTables
 pub mod MigrationTables
+pub mod MoreNames
 pub mod MigratingTexts
 pub mod SpanLists
 pub mod MigrationStatements

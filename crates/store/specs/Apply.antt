@@ -17,7 +17,7 @@ use Rattle.store.specs.declared.fault.Applied.TheVariants.{Done, Repeat}
 use Rattle.store.specs.declared.fault.StoreFault.{StoreFault}
 use Rattle.store.specs.declared.fault.StoreFault.TheVariants.{NoSuchRow, CountFull, Database, Memory}
 use Rattle.store.specs.State.{Content}
-use Rattle.store.specs.Changes.{is_executed, with_executed, HasOutcome, done, refused}
+use Rattle.store.specs.Changes.{is_executed, with_executed, widened, HasOutcome, done, refused}
 use Rattle.store.specs.Rows.{StandsFor, HasRowids, held_rows, span_rows}
 use Rattle.store.specs.Inside.{StaysOpen, WasOpen}
 use Rattle.store.specs.Beside.{LiesBeside}
@@ -168,4 +168,17 @@ pub record IsReplaced {E : Type 0} (executed after : Ids) (old new : State) (r :
   pub lives : Survives old new (λ _. Unit {0})
   pub crash : (names : Names) → (content : Content) → IsAtRest old names content → executed ≡ content.executed
       → Survives old new (λ trees. AreOf old.now.schema names (with_executed after content) trees × SparesBeside old.now trees)
+  pub autocommit : new.in_transaction ≡ false
+
+-- ---- More tables, and another executed set.
+
+-- What a call comes to that adds these names to the filter and stores the set after it in place of the executed set, both or neither. A
+-- connection that is open then was open before, and after a commit it is open.
+pub record IsWidened {E : Type 0} (following more : Names) (executed after : Ids) (old new : State) (r : Result (Unit {0}) E) : Type 0 where
+  pub widens : HasCleanDisk new → (content : Content) → IsAtRest old following content → executed ≡ content.executed → Replaces (widened following more) (with_executed after content) old new r
+  pub opened : HasCleanDisk new → WasOpen old new
+  pub done : HasCleanDisk new → OnOk r (IsTrue new.is_open)
+  pub lives : Survives old new (λ _. Unit {0})
+  pub crash : (content : Content) → IsAtRest old following content → executed ≡ content.executed
+      → Survives old new (λ trees. AreOf old.now.schema (widened following more) (with_executed after content) trees × SparesBeside old.now trees)
   pub autocommit : new.in_transaction ≡ false

@@ -1,5 +1,5 @@
 -- What a change and a transaction make of what a replica holds.
-use Rattle.std.specs.Prelude.{◌≡◌, ◌≢◌, ◌⊎◌, ◌<◌, ◌≤◌, ◌+◌, ℕ, Bool, true, false, List, [], ◌∷◌, take, slice_get, Some, MatchBool}
+use Rattle.std.specs.Prelude.{◌≡◌, ◌≢◌, ◌⊎◌, ◌<◌, ◌≤◌, ◌+◌, ℕ, Bool, true, false, if◌then◌else◌, List, [], ◌∷◌, take, slice_get, Some, MatchBool}
 use Rattle.std.specs.FinSet as set
 use Rattle.gtid.specs.Identifier.{Ids}
 use Rattle.binlog.specs.Filter.{Names, admits}
@@ -96,3 +96,9 @@ with_executed ids content = record { executed = ids; rows = content.rows }
 -- the GTIDs of this set are executed too, and the rows stay
 abbrev pub adopted : Content → Ids → Content
 adopted content ids = with_executed (set.union content.executed ids) content
+
+-- ---- Admitting tables.
+
+-- the names of both; a filter that admits all tables stays, since with a name it would admit fewer
+abbrev pub widened : Names → Names → Names
+widened names more = if set.is_subset names set.empty then names else set.union names more

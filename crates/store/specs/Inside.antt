@@ -18,7 +18,7 @@ use Rattle.store.specs.declared.row_change.Refusal.TheVariants.{NoSuchRow, Count
 use Rattle.store.specs.Layout.{IsLaidOut}
 use Rattle.store.specs.Beside.{LiesBeside}
 use Rattle.store.specs.Changes.{most, IsMade, IsRefused, IsDone, AreDone, is_admitted, IsRefusedAt}
-use Rattle.store.specs.Rows.{meta_rows, held_rows, span_rows, follow_rows, HasRowids, IsHeldRow, Key, KeyCounts, count, with_one, without_one, bag_of, shown_spans, begins_at, stored_span}
+use Rattle.store.specs.Rows.{AreNames, meta_rows, held_rows, span_rows, follow_rows, HasRowids, IsHeldRow, Key, KeyCounts, count, with_one, without_one, bag_of, shown_spans, begins_at, stored_span}
 
 -- The connection is in a transaction on a database of the layout, and what lies beside is as it was committed.
 pub record IsWorking (s : State) : Type 0 where
@@ -62,6 +62,16 @@ pub record StaysOpen (old new : State) : Type 0 where
   pub committed : new.committed ≡ old.committed
   pub meta : meta_rows new.now ≡ meta_rows old.now
   pub follow : follow_rows new.now ≡ follow_rows old.now
+
+-- Only the names in follow have changed, to these.
+pub record StoresNames (old new : State) (names : Names) : Type 0 where
+  pub working : IsWorking new
+  pub schema : new.now.schema ≡ old.now.schema
+  pub committed : new.committed ≡ old.committed
+  pub meta : meta_rows new.now ≡ meta_rows old.now
+  pub held : held_rows new.now ≡ held_rows old.now
+  pub spans : span_rows new.now ≡ span_rows old.now
+  pub names_are : AreNames (follow_rows new.now) names
 
 -- Only the counts of held have changed, to these.
 pub record HasCounts (old new : State) (counts : KeyCounts) : Type 0 where
@@ -176,3 +186,16 @@ DoesAll names changes old new (Some refused) = IsRefusedAt names changes (bag_of
 abbrev pub DoesIn : Bool → Names → List ChangeValue → State → State → Option (ℕ × Refusal) → Type 0
 DoesIn in_order names changes old new None = DoesAll names changes old new None
 DoesIn in_order names changes old new (Some refused) = MatchBool in_order (DoesAll names changes old new (Some refused)) (Unit {0})
+
+-- ---- More names, and another executed set.
+
+-- Only the names and the spans have changed: these are the names, and the spans are the least intervals of this set.
+pub record HasWidened (old new : State) (names : Names) (ids : Ids) : Type 0 where
+  pub working : IsWorking new
+  pub schema : new.now.schema ≡ old.now.schema
+  pub committed : new.committed ≡ old.committed
+  pub meta : meta_rows new.now ≡ meta_rows old.now
+  pub held : held_rows new.now ≡ held_rows old.now
+  pub names_are : AreNames (follow_rows new.now) names
+  pub spans : List Span
+  pub shows : Shows (span_rows new.now) spans ids

@@ -15,7 +15,7 @@ use Rattle.store.specs.declared.fault.StoreFault.{StoreFault}
 use Rattle.store.specs.declared.fault.StoreFault.TheVariants.{NoSuchRow, CountFull, Database, Memory}
 use Rattle.store.specs.declared.store.Store.{Store}
 use Rattle.store.specs.State.{Content, TableRow}
-use Rattle.store.specs.Changes.{HasOutcome, is_executed, done, repeat, refused, adopted}
+use Rattle.store.specs.Changes.{HasOutcome, is_executed, done, repeat, refused, adopted, widened}
 use Rattle.store.specs.Beside.{LiesBeside}
 use Rattle.store.specs.Apply.{IsAtRest, IsApplied, SparesBeside}
 pub use Rattle.store.specs.Apply.{AreOf}
@@ -64,11 +64,11 @@ module _ {S : Type 0} (g : Ghosts S) where
   abbrev pub HoldsAs : Bool → Content → Store S g → Type 0
   HoldsAs broken content store = MatchBool broken (HasFailed store content) (Holds store content)
 
-  -- What a call that may change the content keeps otherwise. But for the first two facts this is said of a store that held a content,
-  -- and of a disk that is clean after the call.
-  pub record KeepsRest {X : Type 0} (before after : Store S g) (answer : Result X StoreFault) : Type 0 where
-    -- The names stay, and if the disk is clean after the call, it was so before.
-    pub following : names_of after ≡ names_of before
+  -- What a call that may change the content keeps otherwise, and which names it leaves. But for the first two facts this is said of a
+  -- store that held a content, and of a disk that is clean after the call.
+  pub record KeepsRestWith {X : Type 0} (names : Names) (before after : Store S g) (answer : Result X StoreFault) : Type 0 where
+    -- These are the names, and if the disk is clean after the call, it was so before.
+    pub following : names_of after ≡ names
     pub clean : HasCleanDisk (database after) → HasCleanDisk (database before)
     -- A store that is still whole has the same schema.
     pub schema : HasCleanDisk (database after) → (content : Content) → Holds before content → IsUnbroken after → (database after).now.schema ≡ (database before).now.schema
@@ -77,6 +77,10 @@ module _ {S : Type 0} (g : Ghosts S) where
     pub crash_beside : HasCleanDisk (database after) → (content : Content) → Holds before content → (trees : Trees) → (database after).may_leave trees → SparesBeside (database before).now trees
     -- After a fault the whole database is as it was, where the connection is still open.
     pub unchanged : HasCleanDisk (database after) → (content : Content) → Holds before content → IsErr answer → IsTrue (database after).is_open → (database after).now ≡ (database before).now
+
+  -- The same where the names stay.
+  abbrev pub KeepsRest : {X : Type 0} → Store S g → Store S g → Result X StoreFault → Type 0
+  KeepsRest before after answer = KeepsRestWith (names_of before) before after answer
 
   -- The store holds what the transaction makes of the content.
   pub record HoldsApplied (names : Names) (content : Content) (d : DeliveryValue) (new : Store S g) : Type 0 where
@@ -142,6 +146,17 @@ abbrev pub LeavesAdopted : Schema → Names → Content → Ids → Result (Unit
 LeavesAdopted schema names content ids (Ok u) trees = AreOf schema names (adopted content ids) trees
 LeavesAdopted schema names content ids (Err (Database e)) trees = AreOf schema names content trees ⊎ AreOf schema names (adopted content ids) trees
 LeavesAdopted schema names content ids _ trees = AreOf schema names content trees
+
+-- the names after a call that adds some
+abbrev pub names_left : Names → Names → Result (Unit {0}) StoreFault → Names
+names_left names more (Ok u) = widened names more
+names_left names more (Err e) = names
+
+-- What a crash leaves of names that a store has admitted, with a set.
+abbrev pub LeavesAdmitted : Schema → Names → Names → Content → Ids → Result (Unit {0}) StoreFault → Trees → Type 0
+LeavesAdmitted schema names more content ids (Ok u) trees = AreOf schema (widened names more) (adopted content ids) trees
+LeavesAdmitted schema names more content ids (Err (Database e)) trees = AreOf schema names content trees ⊎ AreOf schema (widened names more) (adopted content ids) trees
+LeavesAdmitted schema names more content ids _ trees = AreOf schema names content trees
 
 -- whether the database has to be opened again after this answer
 abbrev pub breaks : Result Applied StoreFault → Bool

@@ -17,7 +17,7 @@ use gtid::{GtidFault, GtidSet};
 use sqlite::{Alter, Connection, Error};
 
 /// The union of two sets. The only error is `Memory`.
-fn united(executed: &GtidSet, gtids: &GtidSet) -> Result<GtidSet, GtidFault>
+pub(crate) fn united(executed: &GtidSet, gtids: &GtidSet) -> Result<GtidSet, GtidFault>
     ensures ok { IfOk result (λ after. after ≡ set.union executed.now gtids.now) }
     ensures err { IfErr result (λ fault. fault ≡ GtidFault.Memory) }
 {

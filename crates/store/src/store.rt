@@ -1,6 +1,6 @@
 //! The store.
 //!
-//! Its methods are in `opening.rt`, `contents.rt`, `apply.rt`, `adopt.rt`, `counting.rt` and `listing.rt`: the struct has
+//! Its methods are in `opening.rt`, `contents.rt`, `apply.rt`, `adopt.rt`, `admit.rt`, `counting.rt` and `listing.rt`: the struct has
 //! facts that definitions are stated over, and the prover takes no file that both has such a struct and names these
 //! definitions.
 

@@ -1,15 +1,16 @@
 //! The table `follow`: the tables whose rows are kept.
 
-ghost use Rattle.std.specs.Prelude.{◌≡◌, [], pos, map, None, ◌<◌, MatchOption, MatchResult};
+ghost use Rattle.std.specs.Prelude.{◌≡◌, [], pos, map, None, ◌<◌, OnOk, MatchOption, MatchResult};
 ghost use Rattle.sqlite.specs.Held.{state};
 ghost use Rattle.binlog.specs.Filter.{Names};
 ghost use Rattle.binlog.specs.FilterView.{name_list};
 ghost use Rattle.store.specs.State.{Content};
-ghost use Rattle.store.specs.Inside.{Stays, TurnsInto};
+ghost use Rattle.store.specs.Changes.{widened};
+ghost use Rattle.store.specs.Inside.{StoresNames, Stays, TurnsInto, Within};
 ghost use Rattle.store.specs.Making.{with_spans, new_layout, IsMaking, IsNaming};
 ghost use Rattle.store.specs.Migrating.{made_spans, HasTables, HasBare, IsMigrating};
 ghost use Rattle.std.specs.List.{AllByRecursion};
-ghost use Rattle.store.specs.Rows.{IsFollowRow, AreNames, name_in};
+ghost use Rattle.store.specs.Rows.{IsFollowRow, AreNames, follow_rows, name_in};
 ghost use Rattle.store.specs.Load.{ReadsAll, Judges, all_follow_text};
 ghost use Rattle.store.specs.declared.fault.StoreFault.TheVariants.{Memory};
 ghost use Rattle.sqlite_value.specs.declared.value.Value.TheVariants.{Int};
@@ -62,12 +63,53 @@ fn add_name<S: Alter>(
 ) -> Result<usize, Error>
     ensures named { (names : Names) → TurnsInto S.Store tx.old.conn tx.new.conn result
         (IsNaming names) (IsNaming (set.insert names (schema.now, table.now))) }
+    ensures added { (names : Names) → Within S.Store tx.old.conn tx.new.conn (λ old new.
+        AreNames (follow_rows old.now) names
+        → OnOk result (StoresNames old new (set.insert names (schema.now, table.now)))) }
     ensures stays { Stays S.Store tx.old.conn tx.new.conn result }
 {
     tx.execute(
         "INSERT INTO follow VALUES (?1, ?2)",
         &[ValueRef::Blob(schema), ValueRef::Blob(table)],
     )
+}
+
+/// Inserts the names that a filter does not admit, where it is the one that is stored.
+pub(crate) fn add_missing<S: Alter>(
+    tx: &mut Transaction<'_, S>,
+    following: &Follow,
+    names: &[(Vec<u8>, Vec<u8>)],
+) -> Result<(), Error>
+    ensures named { Within S.Store tx.old.conn tx.new.conn (λ old new.
+        AreNames (follow_rows old.now) following.now
+        → OnOk result (StoresNames old new (widened following.now (set.from_list
+        (name_list names.now))))) }
+    ensures stays { Stays S.Store tx.old.conn tx.new.conn result }
+{
+    for name in names {
+        add_if_missing(tx, following, name.0.as_slice(), name.1.as_slice())?;
+    }
+    Ok(())
+}
+
+/// Inserts the name of a table, unless a filter admits it.
+fn add_if_missing<S: Alter>(
+    tx: &mut Transaction<'_, S>,
+    following: &Follow,
+    schema: &[u8],
+    table: &[u8],
+) -> Result<(), Error>
+    ensures named { (so_far : Names) → Within S.Store tx.old.conn tx.new.conn (λ old new.
+        AreNames (follow_rows old.now) (widened following.now so_far)
+        → OnOk result (StoresNames old new (widened following.now (set.insert so_far
+        (schema.now, table.now))))) }
+    ensures stays { Stays S.Store tx.old.conn tx.new.conn result }
+{
+    if following.follows(schema, table) {
+        return Ok(());
+    }
+    add_name(tx, schema, table)?;
+    Ok(())
 }
 
 /// The filter in `follow`.
