@@ -212,7 +212,10 @@ reached_in_files names old was is ends wanted (Ok files) noted wants none = λ h
     let n = noted honest in
     (n.0, n.1, has_reached names old n.0 was is ends wanted n.2 wants none)
 reached_in_files names old was is ends wanted (Err e) noted wants none = λ honest.
-    let n = noted honest in
-    (n.0, has_reached names old n.0 was is ends wanted n.1 wants none, λ trees may.
-      let it = n.2 trees may in
-      (it.0, left_has names n.1.noted_of.notices n.0 it.0 it.1, it.2))
+    let n = noted honest in (
+      n.0,
+      has_reached names old n.0 was is ends wanted n.1 wants none,
+      λ trees may.
+          let it = n.2 trees may in
+          (it.0, left_has names n.1.noted_of.notices n.0 it.0 it.1, it.2),
+    )

@@ -10,7 +10,7 @@ use Rattle.replica.specs.Marks.{is_of_copy, begun_number}
 use Rattle.replica.specs.Clear.{TableClear, IsCleared, IsClearedWhere, IsClearedBy}
 use Rattle.replica.specs.Copies.{HasNothing, HasJust, IsAtSet, HaveNoRows, MayBegin, AreOfCopies, with_marks, end_of_copy}
 use Rattle.replica.specs.Copied.{AreAdded, AreAdditions, AreCopied, AreNumbered, NoneExecuted, with_all}
-use Rattle.replica.specs.SourceLog.{LogStep, committed, emptied, step_id, MakesStep, Logged, AreLogged, HasPoint, AgreesOn, IsKept, IsKeptBeside, IsAt, IsAtBeside, read_changes, IsReadOf, AreFirst, AreOfLog, IsEmptiedIn, IsCopyAt}
+use Rattle.replica.specs.SourceLog.{LogStep, committed, emptied, step_id, MakesStep, Logged, AreLogged, HasPoint, AgreesOn, IsKeptTable, IsKeptTableBeside, HasSourceRows, HasSourceRowsBeside, read_changes, IsReadOf, AreFirst, AreOfLog, IsEmptiedIn, IsCopyAt}
 use Rattle.replica.proofs.CopyLoads.{inserts as inserts_rows, loaded_rows, stays}
 use Rattle.replica.proofs.Transactions.{no_other, itself, still}
 
@@ -231,7 +231,7 @@ module _ (names : Names) (clear : TableClear) where
   cleared_set old new true cleared = cleared.executed
   cleared_set old new false cleared = cleared.executed
 
-  cleared_here : (old new was after : Content) → AgreesOn (IsKept names) old was → IsClearedBy names clear old new → IsCleared clear was after → AgreesOn (IsKept names) new after
+  cleared_here : (old new was after : Content) → AgreesOn (IsKeptTable names) old was → IsClearedBy names clear old new → IsCleared clear was after → AgreesOn (IsKeptTable names) new after
   cleared_here old new was after agrees cleared gone = record {
     just = just_more old.executed was.executed new.executed after.executed (clear.source, clear.number) agrees.just (cleared_set old new (admits names clear.schema clear.table) cleared) gone.executed;
     rows = λ schema table cells of. cleared_rows old new was after (admits names clear.schema clear.table) refl cleared gone schema table cells of (agrees.rows schema table cells of);
@@ -246,19 +246,19 @@ module _ (names : Names) (clear : TableClear) where
   step_made : (step : LogStep) (was after : Content) → step ≡ emptied clear → MakesStep step was after → IsCleared clear was after
   step_made step was after is made = (subst (λ s. MakesStep s was after) is made).1
 
-  pub cleared_at : (log : List Logged) (was old new : Content) → AreLogged was log → HasPoint (AgreesOn (IsKept names) old) was log → IsEmptiedIn clear was log → set.contains old.executed (clear.source, clear.number) ≡ false → HasJust old.executed clear.at
-      → IsClearedBy names clear old new → HasPoint (AgreesOn (IsKept names) new) was log
+  pub cleared_at : (log : List Logged) (was old new : Content) → AreLogged was log → HasPoint (AgreesOn (IsKeptTable names) old) was log → IsEmptiedIn clear was log → set.contains old.executed (clear.source, clear.number) ≡ false → HasJust old.executed clear.at
+      → IsClearedBy names clear old new → HasPoint (AgreesOn (IsKeptTable names) new) was log
   cleared_at [] was old new logged at is out just cleared = absurd is
   cleared_at (l ∷ ls) was old new logged (inl agrees) (inl here) out just cleared = inr (at_first ls (cleared_here old new was l.after agrees cleared (step_made l.step was l.after here.0 logged.0)))
     where
-      at_first : (rest : List Logged) → AgreesOn (IsKept names) new l.after → HasPoint (AgreesOn (IsKept names) new) l.after rest
+      at_first : (rest : List Logged) → AgreesOn (IsKeptTable names) new l.after → HasPoint (AgreesOn (IsKeptTable names) new) l.after rest
       at_first [] it = it
       at_first (x ∷ xs) it = inl it
   cleared_at (l ∷ ls) was old new logged (inl agrees) (inr later) out just cleared =
       let executed = set.is_subset-contains id_cmp_total clear.at old.executed just.0 (step_id l.step) (before_it ls l.after logged.2 later (step_id l.step) (is_in l.step was l.after logged.0)) in
       absurd (false≢true (sym (not_yet old.executed was.executed (step_id l.step) agrees.just logged.1 (fresh l.step was l.after logged.0)) ∙ executed))
   cleared_at (l ∷ ls) was old new logged (inr at) (inl here) out just cleared =
-      absurd (false≢true (sym out ∙ ap (λ (s : LogStep). set.contains old.executed (step_id s)) (sym here.0) ∙ first_in (IsKept names) old was l ls logged at))
+      absurd (false≢true (sym out ∙ ap (λ (s : LogStep). set.contains old.executed (step_id s)) (sym here.0) ∙ first_in (IsKeptTable names) old was l ls logged at))
   cleared_at (l ∷ ls) was old new logged (inr at) (inr later) out just cleared = inr (cleared_at ls l.after old new logged.2 at later out just cleared)
 
 -- ---- A transaction that is skipped.
@@ -267,10 +267,10 @@ none_done : (names : Names) (cs : List ChangeValue) (bag : Bag) → AllByRecursi
 none_done names [] bag none = refl
 none_done names (c ∷ cs) bag none = (bag, subst (λ b. MatchBool b (IsMade c bag bag) (bag ≡ bag)) (sym none.0) refl, none_done names cs bag none.1)
 
-pub skipped_at : (names : Names) (log : List Logged) (was old new : Content) (d : DeliveryValue) → AreLogged was log → HasPoint (AgreesOn (IsKept names) old) was log → AreOfLog names old.executed log (d ∷ [])
-    → AllByRecursion (λ c. is_admitted names c ≡ false) d.changes → HasOutcome names old (record { source = d.source; number = d.number; changes = [] }) (done new) → HasPoint (AgreesOn (IsKept names) new) was log
+pub skipped_at : (names : Names) (log : List Logged) (was old new : Content) (d : DeliveryValue) → AreLogged was log → HasPoint (AgreesOn (IsKeptTable names) old) was log → AreOfLog names old.executed log (d ∷ [])
+    → AllByRecursion (λ c. is_admitted names c ≡ false) d.changes → HasOutcome names old (record { source = d.source; number = d.number; changes = [] }) (done new) → HasPoint (AgreesOn (IsKeptTable names) new) was log
 skipped_at names log was old new d logged at of none skipped =
-    log_applied names (IsKept names) (λ schema table is. is) log was old (d ∷ []) [] 1 new logged at of
+    log_applied names (IsKeptTable names) (λ schema table is. is) log was old (d ∷ []) [] 1 new logged at of
     (inl (new, 0, (skipped.0, subst (λ b. AreDone names d.changes old.rows b) (sym skipped.1) (none_done names d.changes old.rows none), skipped.2), refl, (refl, refl)))
 
 -- ---- GTIDs of copies.
@@ -389,7 +389,7 @@ module _ (executed ids : Ids) (first : Id) (of_copy : is_of_copy first.0 ≡ tru
 
 -- The tables of the copy are none of these.
 abbrev AgreeBeside : Names → Names → Bag → Bag → Type 0
-AgreeBeside tables names old was = (schema table : List ℕ) (cells : List CellValue) → IsKeptBeside tables names schema table → old (row_of schema table cells) ≡ was (row_of schema table cells)
+AgreeBeside tables names old was = (schema table : List ℕ) (cells : List CellValue) → IsKeptTableBeside tables names schema table → old (row_of schema table cells) ≡ was (row_of schema table cells)
 
 -- the rows of the tables of a copy
 abbrev AgreeThen : (List ℕ → List ℕ → Type 0) → Bag → Bag → Type 0
@@ -404,7 +404,7 @@ module _ (names tables : Names) (Of : List ℕ → List ℕ → Type 0) (old new
   }
 
   abbrev IsOther : Content → Type 0
-  IsOther was = AgreesOn (IsKeptBeside tables names) old was
+  IsOther was = AgreesOn (IsKeptTableBeside tables names) old was
 
   -- the copy and the database are at one point
   copied_at : (log : List Logged) (was : Content) → AreLogged was log → HasJust old.executed ids → HasPoint IsOther was log → HasPoint (IsCopyAt names tables old ids rows) was log → HasPoint (AgreesOn Of new) was log
@@ -412,7 +412,7 @@ module _ (names tables : Names) (Of : List ℕ → List ℕ → Type 0) (old new
   copied_at (l ∷ ls) was logged had (inl at) (inl copy) = inl (copied_here was copy at.rows)
   copied_at (l ∷ ls) was logged had (inr at) (inl copy) =
       absurd (false≢true (sym (not_yet old.executed ids (step_id l.step) had logged.1 (ap (λ s. set.contains s (step_id l.step)) copy.executed ∙ fresh l.step was l.after logged.0))
-      ∙ first_in (IsKeptBeside tables names) old was l ls logged at))
+      ∙ first_in (IsKeptTableBeside tables names) old was l ls logged at))
   copied_at (l ∷ ls) was logged had (inl at) (inr copy) =
       let in_ids = executed_on (IsCopyAt names tables old ids rows) ids ls l.after (λ w c. c.executed) logged.2 copy (step_id l.step) (is_in l.step was l.after logged.0) in
       absurd (false≢true (sym (not_yet old.executed was.executed (step_id l.step) at.just logged.1 (fresh l.step was l.after logged.0))
@@ -424,7 +424,7 @@ module _ (names tables : Names) (Of : List ℕ → List ℕ → Type 0) (old new
   none_there [] logged none at schema table cells of = at.rows schema table cells of
   none_there (l ∷ ls) logged none (inl at) schema table cells of = at.rows schema table cells of
   none_there (l ∷ ls) logged none (inr at) schema table cells of =
-      absurd (false≢true (sym (set.contains-empty id_cmp (step_id l.step)) ∙ set.is_subset-contains id_cmp_total old.executed set.empty none (step_id l.step) (first_in (IsKeptBeside tables names) old nothing l ls logged at)))
+      absurd (false≢true (sym (set.contains-empty id_cmp (step_id l.step)) ∙ set.is_subset-contains id_cmp_total old.executed set.empty none (step_id l.step) (first_in (IsKeptTableBeside tables names) old nothing l ls logged at)))
 
   loaded_at : (log : List Logged) → AreLogged nothing log → IsAtSet old.executed ids → HasPoint IsOther nothing log → HasPoint (IsCopyAt names tables old ids rows) nothing log → HasPoint (AgreesOn Of new) nothing log
   loaded_at log logged (inl none) at copy =
@@ -434,7 +434,7 @@ module _ (names tables : Names) (Of : List ℕ → List ℕ → Type 0) (old new
 
 -- the rows of the copy were added
 copied_rows : (names tables : Names) (old new : Content) (ids : Ids) (rows : List TableRow) → HaveNoRows tables old → AreAdded rows old.rows new.rows → (was : Content) → IsCopyAt names tables old ids rows was → AgreeBeside tables names old.rows was.rows
-    → AgreeThen (IsKept names) new.rows was.rows
+    → AgreeThen (IsKeptTable names) new.rows was.rows
 copied_rows names tables old new ids rows empty added was copy others schema table cells of =
     let r = row_of schema table cells in
     let are = copy.rows_are in
@@ -445,9 +445,9 @@ copied_rows names tables old new ids rows empty added was copy others schema tab
     ]
 
 -- a copy that may begin, and is loaded whole
-pub copy_loaded : (names tables : Names) (log : List Logged) (old new : Content) (ids : Ids) (first : Id) (ds : List DeliveryValue) (rows : List TableRow) (number n : ℕ) → AreLogged nothing log → IsAtBeside tables names log old
+pub copy_loaded : (names tables : Names) (log : List Logged) (old new : Content) (ids : Ids) (first : Id) (ds : List DeliveryValue) (rows : List TableRow) (number n : ℕ) → AreLogged nothing log → HasSourceRowsBeside tables names log old
     → HasPoint (IsCopyAt names tables old ids rows) nothing log → MayBegin names old ids first tables → is_of_copy first.0 ≡ true → NoneExecuted first.0 number (adopted old (with_marks ids first)).executed → number + length ds ≤ begun_number
-    → AreNumbered first.0 number ds → AreCopied names ds rows → AppliesAll names (adopted old (with_marks ids first)) (ds ++ end_of_copy first.0 ∷ []) n new → IsAt names log new
+    → AreNumbered first.0 number ds → AreCopied names ds rows → AppliesAll names (adopted old (with_marks ids first)) (ds ++ end_of_copy first.0 ∷ []) n new → HasSourceRows names log new
 copy_loaded names tables log old new ids first ds rows number n logged at copy may of_copy none few numbered copied applies =
     let loaded = loaded_rows names first.0 number (adopted old (with_marks ids first)) ds rows n new none few numbered copied applies in
     let all = ds ++ end_of_copy first.0 ∷ [] in
@@ -455,7 +455,7 @@ copy_loaded names tables log old new ids first ds rows number n logged at copy m
     let just : HasJust new.executed ids = copy_just old.executed ids first of_copy may.at new.executed
     (λ q has. ap (λ s. set.contains s q) loaded.2 ∙ still_all begun all q has)
     (λ q has. one_of_all first.0 begun all q (all_numbered first.0 number ds numbered) (sym (ap (λ s. set.contains s q) loaded.2) ∙ has)) in
-    loaded_at names tables (IsKept names) old new ids rows just (copied_rows names tables old new ids rows may.empty loaded.1) log logged may.at at copy
+    loaded_at names tables (IsKeptTable names) old new ids rows just (copied_rows names tables old new ids rows may.empty loaded.1) log logged may.at at copy
 
 -- ---- A copy that is loaded in part.
 
@@ -505,15 +505,15 @@ applied_of names source old (d ∷ ds) n new q of (inl t) has = elim (applied_of
 ]
 applied_of names source old (d ∷ ds) n new q of (inr t) has = applied_of names source old ds n new q of.1 t.1 has
 
-pub copy_loading : (names tables : Names) (log : List Logged) (old mid : Content) (ids : Ids) (first : Id) (part more : List DeliveryValue) (rows : List TableRow) (number n : ℕ) → AreLogged nothing log → IsAtBeside tables names log old
+pub copy_loading : (names tables : Names) (log : List Logged) (old mid : Content) (ids : Ids) (first : Id) (part more : List DeliveryValue) (rows : List TableRow) (number n : ℕ) → AreLogged nothing log → HasSourceRowsBeside tables names log old
     → HasPoint (IsCopyAt names tables old ids rows) nothing log → MayBegin names old ids first tables → is_of_copy first.0 ≡ true
-    → AreNumbered first.0 number (part ++ more) → AreCopied names (part ++ more) rows → AppliesAll names (adopted old (with_marks ids first)) part n mid → IsAtBeside tables names log mid
+    → AreNumbered first.0 number (part ++ more) → AreCopied names (part ++ more) rows → AppliesAll names (adopted old (with_marks ids first)) part n mid → HasSourceRowsBeside tables names log mid
 copy_loading names tables log old mid ids first part more rows number n logged at copy may of_copy numbered copied applies =
     let begun = set.union old.executed (with_marks ids first) in
     let just : HasJust mid.executed ids = copy_just old.executed ids first of_copy may.at mid.executed
     (λ q has. stays names (adopted old (with_marks ids first)) part n mid applies q has)
     (λ q has. applied_of names first.0 (adopted old (with_marks ids first)) part n mid q (part_of first.0 number part more numbered) applies has) in
-    loaded_at names tables (IsKeptBeside tables names) old mid ids rows just
+    loaded_at names tables (IsKeptTableBeside tables names) old mid ids rows just
     (λ was c others schema table cells of.
     part_beside names part more rows (row_of schema table cells) (adopted old (with_marks ids first)) n mid copied
     (not_among rows (row_of schema table cells) nothing.rows c.rows_are.copied c.rows_are.added (c.rows_are.alone schema table cells of.1)).0 applies
@@ -544,8 +544,8 @@ module _ (names tables : Names) (clear : TableClear) (of_copy : is_of_copy clear
             | inr in_it ↦ just.1 q (set.contains-difference id_cmp_total executed was q ∙ beside _ _ in_it both.1)
           ]
 
-  pub given_up : (log : List Logged) (was old new : Content) → HasPoint (AgreesOn (IsKeptBeside tables names) old) was log → IsClearedBy names clear old new → HasPoint (AgreesOn (IsKeptBeside tables names) new) was log
-  given_up log was old new at cleared = at_each (AgreesOn (IsKeptBeside tables names) old) (AgreesOn (IsKeptBeside tables names) new) log was
+  pub given_up : (log : List Logged) (was old new : Content) → HasPoint (AgreesOn (IsKeptTableBeside tables names) old) was log → IsClearedBy names clear old new → HasPoint (AgreesOn (IsKeptTableBeside tables names) new) was log
+  given_up log was old new at cleared = at_each (AgreesOn (IsKeptTableBeside tables names) old) (AgreesOn (IsKeptTableBeside tables names) new) log was
       (λ w agrees. record {
         just = one_copy old.executed w.executed new.executed (cleared_set names clear old new (admits names clear.schema clear.table) cleared) agrees.just;
         rows = λ schema table cells of. others_stay old new (admits names clear.schema clear.table) cleared schema table cells of.1 ∙ agrees.rows schema table cells of;
@@ -554,21 +554,21 @@ module _ (names tables : Names) (clear : TableClear) (of_copy : is_of_copy clear
 -- ---- Two databases.
 
 -- those that have executed the same have the same rows
-pub one_at : (names : Names) (log : List Logged) (was a b : Content) → AreLogged was log → HasPoint (AgreesOn (IsKept names) a) was log → HasPoint (AgreesOn (IsKept names) b) was log → a.executed ≡ b.executed
+pub one_at : (names : Names) (log : List Logged) (was a b : Content) → AreLogged was log → HasPoint (AgreesOn (IsKeptTable names) a) was log → HasPoint (AgreesOn (IsKeptTable names) b) was log → a.executed ≡ b.executed
     → (schema table : List ℕ) (cells : List CellValue) → admits names schema table ≡ true → a.rows (row_of schema table cells) ≡ b.rows (row_of schema table cells)
 one_at names [] was a b logged at_a at_b same schema table cells of = at_a.rows schema table cells of ∙ sym (at_b.rows schema table cells of)
 one_at names (l ∷ ls) was a b logged (inl at_a) (inl at_b) same schema table cells of = at_a.rows schema table cells of ∙ sym (at_b.rows schema table cells of)
 one_at names (l ∷ ls) was a b logged (inl at_a) (inr at_b) same schema table cells of =
-    absurd (false≢true (sym (not_yet a.executed was.executed (step_id l.step) at_a.just logged.1 (fresh l.step was l.after logged.0)) ∙ ap (λ s. set.contains s (step_id l.step)) same ∙ first_in (IsKept names) b was l ls logged at_b))
+    absurd (false≢true (sym (not_yet a.executed was.executed (step_id l.step) at_a.just logged.1 (fresh l.step was l.after logged.0)) ∙ ap (λ s. set.contains s (step_id l.step)) same ∙ first_in (IsKeptTable names) b was l ls logged at_b))
 one_at names (l ∷ ls) was a b logged (inr at_a) (inl at_b) same schema table cells of =
-    absurd (false≢true (sym (not_yet b.executed was.executed (step_id l.step) at_b.just logged.1 (fresh l.step was l.after logged.0)) ∙ ap (λ s. set.contains s (step_id l.step)) (sym same) ∙ first_in (IsKept names) a was l ls logged at_a))
+    absurd (false≢true (sym (not_yet b.executed was.executed (step_id l.step) at_b.just logged.1 (fresh l.step was l.after logged.0)) ∙ ap (λ s. set.contains s (step_id l.step)) (sym same) ∙ first_in (IsKeptTable names) a was l ls logged at_a))
 one_at names (l ∷ ls) was a b logged (inr at_a) (inr at_b) same schema table cells of = one_at names ls l.after a b logged.2 at_a at_b same schema table cells of
 
 -- a transaction whose rows are lost where it is skipped
-pub lost_at : (names : Names) (log : List Logged) (d : DeliveryValue) (old new after : Content) → AreLogged nothing log → IsAt names log old → AreOfLog names old.executed log (d ∷ []) → HasOutcome names old (record { source = d.source; number = d.number; changes = [] }) (done new)
-    → IsAt names log new → HasOutcome names old d (done after) → (schema table : List ℕ) (cells : List CellValue) → admits names schema table ≡ true → after.rows (row_of schema table cells) ≡ old.rows (row_of schema table cells)
+pub lost_at : (names : Names) (log : List Logged) (d : DeliveryValue) (old new after : Content) → AreLogged nothing log → HasSourceRows names log old → AreOfLog names old.executed log (d ∷ []) → HasOutcome names old (record { source = d.source; number = d.number; changes = [] }) (done new)
+    → HasSourceRows names log new → HasOutcome names old d (done after) → (schema table : List ℕ) (cells : List CellValue) → admits names schema table ≡ true → after.rows (row_of schema table cells) ≡ old.rows (row_of schema table cells)
 lost_at names log d old new after logged at of skipped still_at taken schema table cells kept =
-    let whole = log_applied names (IsKept names) (λ s t is. is) log nothing old (d ∷ []) [] 1 after logged at of (inl (after, 0, taken, refl, (refl, refl))) in
+    let whole = log_applied names (IsKeptTable names) (λ s t is. is) log nothing old (d ∷ []) [] 1 after logged at of (inl (after, 0, taken, refl, (refl, refl))) in
     one_at names log nothing after new logged whole still_at (taken.2 ∙ sym skipped.2) schema table cells kept ∙ ap (λ (b : Bag). b (row_of schema table cells)) skipped.1
 
 -- ---- Transactions that are added without their changes.
@@ -594,9 +594,9 @@ all_none names (d ∷ ds) old none = elim (cases_Bool (is_executed old d)) [
       (rest.0 + 1, inl (mid, rest.0, (new, none_done names d.changes old.rows none.0, refl), refl, rest.1))
 ]
 
-pub adopted_at : (names : Names) (log : List Logged) (ds : List DeliveryValue) (ids : Ids) (old : Content) → AreLogged nothing log → IsAt names log old → AreOfLog names old.executed log ds → ChangeNone names ds → set.union old.executed ids ≡ with_all old.executed ds
-    → IsAt names log (adopted old ids)
+pub adopted_at : (names : Names) (log : List Logged) (ds : List DeliveryValue) (ids : Ids) (old : Content) → AreLogged nothing log → HasSourceRows names log old → AreOfLog names old.executed log ds → ChangeNone names ds → set.union old.executed ids ≡ with_all old.executed ds
+    → HasSourceRows names log (adopted old ids)
 adopted_at names log ds ids old logged at of none same =
     let all = all_none names ds old none in
-    subst (λ s. IsAt names log (with_executed s old)) (sym same)
-    (log_applied names (IsKept names) (λ schema table is. is) log nothing old ds [] all.0 (with_executed (with_all old.executed ds) old) logged at (subst (AreOfLog names old.executed log) (sym (append-nil ds)) of) all.1)
+    subst (λ s. HasSourceRows names log (with_executed s old)) (sym same)
+    (log_applied names (IsKeptTable names) (λ schema table is. is) log nothing old ds [] all.0 (with_executed (with_all old.executed ds) old) logged at (subst (AreOfLog names old.executed log) (sym (append-nil ds)) of) all.1)

@@ -58,19 +58,19 @@ pub record AgreesOn (Of : List ℕ → List ℕ → Type 0) (content was : Conte
   pub rows : (schema table : List ℕ) (cells : List CellValue) → Of schema table → content.rows (row_of schema table cells) ≡ was.rows (row_of schema table cells)
 
 -- tables whose rows are kept; and those of them that are none of others
-abbrev pub IsKept : Names → List ℕ → List ℕ → Type 0
-IsKept names schema table = admits names schema table ≡ true
+abbrev pub IsKeptTable : Names → List ℕ → List ℕ → Type 0
+IsKeptTable names schema table = admits names schema table ≡ true
 
-abbrev pub IsKeptBeside : Names → Names → List ℕ → List ℕ → Type 0
-IsKeptBeside tables names schema table = (admits names schema table ≡ true) × (set.contains tables (schema, table) ≡ false)
+abbrev pub IsKeptTableBeside : Names → Names → List ℕ → List ℕ → Type 0
+IsKeptTableBeside tables names schema table = (admits names schema table ≡ true) × (set.contains tables (schema, table) ≡ false)
 
 -- Each table that is kept has the rows that the source had of it at the executed set.
-abbrev pub IsAt : Names → List Logged → Content → Type 0
-IsAt names log content = HasPoint (AgreesOn (IsKept names) content) nothing log
+abbrev pub HasSourceRows : Names → List Logged → Content → Type 0
+HasSourceRows names log content = HasPoint (AgreesOn (IsKeptTable names) content) nothing log
 
 -- The same but for these tables, of which a copy is loaded.
-abbrev pub IsAtBeside : Names → Names → List Logged → Content → Type 0
-IsAtBeside tables names log content = HasPoint (AgreesOn (IsKeptBeside tables names) content) nothing log
+abbrev pub HasSourceRowsBeside : Names → Names → List Logged → Content → Type 0
+HasSourceRowsBeside tables names log content = HasPoint (AgreesOn (IsKeptTableBeside tables names) content) nothing log
 
 -- ---- What comes from the source.
 
@@ -103,7 +103,7 @@ IsEmptiedIn clear was (l ∷ ls) = ((l.step ≡ emptied clear) × (clear.at ≡ 
 -- ---- A first copy.
 
 -- The rows are those of these tables in the bag, each as often as it is there.
-pub record AreRowsOf (tables : Names) (bag : Bag) (rows : List TableRow) : Type 0 where
+pub record AreCopiesOf (tables : Names) (bag : Bag) (rows : List TableRow) : Type 0 where
   pub copied : Bag
   pub added : AreAdded rows nothing.rows copied
   pub are : (schema table : List ℕ) (cells : List CellValue) → set.contains tables (schema, table) ≡ true → copied (row_of schema table cells) ≡ bag (row_of schema table cells)
@@ -113,5 +113,5 @@ pub record AreRowsOf (tables : Names) (bag : Bag) (rows : List TableRow) : Type 
 -- takes the set over for its other tables too: of these the source had no rows then.
 pub record IsCopyAt (names tables : Names) (old : Content) (ids : Ids) (rows : List TableRow) (was : Content) : Type 0 where
   pub executed : ids ≡ was.executed
-  pub rows_are : AreRowsOf tables was.rows rows
-  pub others : HasNothing old.executed → (schema table : List ℕ) (cells : List CellValue) → IsKeptBeside tables names schema table → was.rows (row_of schema table cells) ≡ 0
+  pub rows_are : AreCopiesOf tables was.rows rows
+  pub others : HasNothing old.executed → (schema table : List ℕ) (cells : List CellValue) → IsKeptTableBeside tables names schema table → was.rows (row_of schema table cells) ≡ 0

@@ -20,7 +20,7 @@ ghost use Rattle.store.specs.State.{Content, TableRow, row_of};
 ghost use Rattle.store.specs.Changes.{HasOutcome, adopted, done, is_admitted};
 ghost use Rattle.store.specs.Open.{nothing};
 ghost use Rattle.replica.specs.Clear.{TableClear, IsClearedAt, IsClearedBy};
-ghost use Rattle.replica.specs.SourceLog.{Logged, IsWholeLog, HasPoint, IsAt, IsAtBeside, AreOfLog, IsEmptiedIn, IsCopyAt};
+ghost use Rattle.replica.specs.SourceLog.{Logged, IsWholeLog, HasPoint, HasSourceRows, HasSourceRowsBeside, AreOfLog, IsEmptiedIn, IsCopyAt};
 ghost use Rattle.replica.specs.Marks.{begun_number, is_of_copy};
 ghost use Rattle.replica.specs.Copies.{AreOfCopies, MayBegin, with_marks, end_of_copy};
 ghost use Rattle.replica.specs.Copied.{AreAdded, AreCopied, AreNumbered, AreOutside, NoneExecuted, with_all};
@@ -342,64 +342,64 @@ pub fn copied()
 {}
 
 /// A database has the rows of its source if each table that it keeps has the rows that the source had of it when it had executed the
-/// same GTIDs (but for those of copies): [`IsAt`]. What commands do over files ([`replay`](crate::replay) and its like) keeps that, in any
+/// same GTIDs (but for those of copies) (`HasSourceRows`). What commands do over files ([`replay`](crate::replay) and its like) keeps that, in any
 /// order, where they are given what comes from the source.
 pub fn at_source()
     // Transactions of its log, in order, up to whose first one all is executed: all of them or, after a crash, the first ones.
     ensures applied { (names : Names) (log : List Logged) (old new : Content)
-        (part more : List DeliveryValue) (n : ℕ) → IsWholeLog log → IsAt names log old
+        (part more : List DeliveryValue) (n : ℕ) → IsWholeLog log → HasSourceRows names log old
         → AreOfLog names old.executed log (part ++ more) → AppliesAll names old part n new
-        → IsAt names log new }
+        → HasSourceRows names log new }
     // A first copy of tables, which are the only ones whose rows the database does not have yet.
     ensures loaded { (names tables : Names) (log : List Logged) (old new : Content) (ids : Ids)
         (first : Id) (ds : List DeliveryValue) (rows : List TableRow) (number n : ℕ)
-        → IsWholeLog log → IsAtBeside tables names log old
+        → IsWholeLog log → HasSourceRowsBeside tables names log old
         → HasPoint (IsCopyAt names tables old ids rows) nothing log
         → MayBegin names old ids first tables → is_of_copy first.0 ≡ true
         → NoneExecuted first.0 number (adopted old (with_marks ids first)).executed
         → number + length ds ≤ begun_number → AreNumbered first.0 number ds
         → AreCopied names ds rows → AppliesAll names (adopted old (with_marks ids first))
-        (ds ++ end_of_copy first.0 ∷ []) n new → IsAt names log new }
+        (ds ++ end_of_copy first.0 ∷ []) n new → HasSourceRows names log new }
     // While it is loaded, or after a crash in it, all other tables have their rows.
     ensures loading { (names tables : Names) (log : List Logged) (old mid : Content) (ids : Ids)
         (first : Id) (part more : List DeliveryValue) (rows : List TableRow) (number n : ℕ)
-        → IsWholeLog log → IsAtBeside tables names log old
+        → IsWholeLog log → HasSourceRowsBeside tables names log old
         → HasPoint (IsCopyAt names tables old ids rows) nothing log
         → MayBegin names old ids first tables → is_of_copy first.0 ≡ true
         → AreNumbered first.0 number (part ++ more) → AreCopied names (part ++ more) rows
         → AppliesAll names (adopted old (with_marks ids first)) part n mid
-        → IsAtBeside tables names log mid }
+        → HasSourceRowsBeside tables names log mid }
     // A copy that is given up: its tables are cleared by GTIDs of copies.
     ensures given_up { (names tables : Names) (log : List Logged) (clear : TableClear)
         (old new : Content) → is_of_copy clear.source ≡ true
-        → set.contains tables (clear.schema, clear.table) ≡ true → IsAtBeside tables names log old
-        → IsClearedBy names clear old new → IsAtBeside tables names log new }
+        → set.contains tables (clear.schema, clear.table) ≡ true → HasSourceRowsBeside tables names log old
+        → IsClearedBy names clear old new → HasSourceRowsBeside tables names log new }
     // A table that is cleared by the GTID of the statement after which it begins anew, where the set before it is executed.
     ensures cleared { (names : Names) (log : List Logged) (clear : TableClear) (old new : Content)
-        → IsWholeLog log → IsAt names log old → IsEmptiedIn clear nothing log
-        → IsClearedAt names clear old → IsClearedBy names clear old new → IsAt names log new }
+        → IsWholeLog log → HasSourceRows names log old → IsEmptiedIn clear nothing log
+        → IsClearedAt names clear old → IsClearedBy names clear old new → HasSourceRows names log new }
     // The next transaction, which is skipped and changes no table that is kept.
     ensures skipped { (names : Names) (log : List Logged) (d : DeliveryValue) (old new : Content)
-        → IsWholeLog log → IsAt names log old → AreOfLog names old.executed log (d ∷ [])
+        → IsWholeLog log → HasSourceRows names log old → AreOfLog names old.executed log (d ∷ [])
         → AllByRecursion (λ c. is_admitted names c ≡ false) d.changes
-        → HasOutcome names old (record d { changes = [] }) (done new) → IsAt names log new }
+        → HasOutcome names old (record d { changes = [] }) (done new) → HasSourceRows names log new }
     // Where it changes the number of copies of a row that is kept, that row is lost: the database has not the source's rows any more.
     ensures lost { (names : Names) (log : List Logged) (d : DeliveryValue) (old new after : Content)
-        → IsWholeLog log → IsAt names log old → AreOfLog names old.executed log (d ∷ [])
-        → HasOutcome names old (record d { changes = [] }) (done new) → IsAt names log new
+        → IsWholeLog log → HasSourceRows names log old → AreOfLog names old.executed log (d ∷ [])
+        → HasOutcome names old (record d { changes = [] }) (done new) → HasSourceRows names log new
         → HasOutcome names old d (done after) → (schema table : List ℕ) (cells : List CellValue)
         → admits names schema table ≡ true
         → after.rows (row_of schema table cells) ≡ old.rows (row_of schema table cells) }
     // The next transactions, which are added without their changes where they change no table that is kept; and GTIDs of copies.
     ensures adopted { (names : Names) (log : List Logged) (ds : List DeliveryValue) (ids : Ids)
-        (old : Content) → IsWholeLog log → IsAt names log old → AreOfLog names old.executed log ds
+        (old : Content) → IsWholeLog log → HasSourceRows names log old → AreOfLog names old.executed log ds
         → AllByRecursion (λ d. AllByRecursion (λ c. is_admitted names c ≡ false) d.changes) ds
-        → set.union old.executed ids ≡ with_all old.executed ds → IsAt names log (adopted old ids) }
+        → set.union old.executed ids ≡ with_all old.executed ds → HasSourceRows names log (adopted old ids) }
     ensures marked { (names : Names) (log : List Logged) (ids : Ids) (old : Content)
-        → AreOfCopies ids → IsAt names log old → IsAt names log (adopted old ids) }
+        → AreOfCopies ids → HasSourceRows names log old → HasSourceRows names log (adopted old ids) }
     // Two databases that have executed the same have the same rows.
     ensures one { (names : Names) (log : List Logged) (a b : Content) → IsWholeLog log
-        → IsAt names log a → IsAt names log b → a.executed ≡ b.executed
+        → HasSourceRows names log a → HasSourceRows names log b → a.executed ≡ b.executed
         → (schema table : List ℕ) (cells : List CellValue) → admits names schema table ≡ true
         → a.rows (row_of schema table cells) ≡ b.rows (row_of schema table cells) }
 {}

@@ -1,10 +1,10 @@
 use Rattle.store.specs.Open.{nothing}
-use Rattle.replica.specs.SourceLog.{IsKept}
+use Rattle.replica.specs.SourceLog.{IsKeptTable}
 use Rattle.replica.proofs.SourceLogs.{log_applied, copy_loaded, copy_loading, cleared_at, given_up, skipped_at, adopted_at, marked_at, one_at, lost_at}
 use Rattle.replica.proofs.laws.at_source.Goals as goal
 
 pub returns-clause-applied : goal.returns-clause-applied
-returns-clause-applied c names log old new part more n logged at of applies = log_applied names (IsKept names) (λ schema table is. is) log nothing old part more n new logged at of applies
+returns-clause-applied c names log old new part more n logged at of applies = log_applied names (IsKeptTable names) (λ schema table is. is) log nothing old part more n new logged at of applies
 
 pub returns-clause-loaded : goal.returns-clause-loaded
 returns-clause-loaded c names tables log old new ids first ds rows number n = copy_loaded names tables log old new ids first ds rows number n
@@ -16,7 +16,7 @@ pub returns-clause-skipped : goal.returns-clause-skipped
 returns-clause-skipped c names log d old new logged at of none skipped = skipped_at names log nothing old new d logged at of none skipped
 
 pub returns-clause-marked : goal.returns-clause-marked
-returns-clause-marked c names log ids old copies at = marked_at (IsKept names) log nothing old ids copies at
+returns-clause-marked c names log ids old copies at = marked_at (IsKeptTable names) log nothing old ids copies at
 
 pub returns-clause-loading : goal.returns-clause-loading
 returns-clause-loading c names tables log old mid ids first part more rows number n = copy_loading names tables log old mid ids first part more rows number n
