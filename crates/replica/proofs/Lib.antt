@@ -56,3 +56,4 @@ pub mod ClearFiles
 pub mod ContentStays
 pub mod AdoptStore
 pub mod SourceLogs
+pub mod ListedAgain

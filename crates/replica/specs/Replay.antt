@@ -1,5 +1,5 @@
 -- Captured connections that were read into a database file.
-use Rattle.std.specs.Prelude.{ℕ, Bool, false, List, Option, MatchResult}
+use Rattle.std.specs.Prelude.{◌≡◌, ℕ, Bool, false, List, [], ◌∷◌, Option, MatchResult}
 use Rattle.sqlite_disk.specs.declared.Disk.{Ghosts}
 use Rattle.sqlite_disk.specs.declared.Files.{Files}
 use Rattle.sqlite_wal.specs.Reads.{AreClean}
@@ -13,10 +13,27 @@ use Rattle.store.specs.Entering.{IsLeft}
 use Rattle.replica.specs.declared.source.captures.Capture.{Capture}
 use Rattle.replica.specs.declared.session.end.Ended.{Ended}
 use Rattle.replica.specs.declared.file.replaying.Replayed.{Replayed}
-use Rattle.replica.specs.Conn.{History}
+use Rattle.replica.specs.Stream.{Reading, due_after}
+use Rattle.replica.specs.Conn.{HasApplied, History}
 use Rattle.replica.specs.Crash.{IsLeftOfAll}
 use Rattle.replica.specs.Capture.{Reads}
 use Rattle.replica.specs.File.{AreClosedWith}
+
+-- ---- Without the reasons why connections end.
+
+-- The first transactions of a connection, those of the payloads that were read, are applied in order, each that is new, and none is
+-- refused: so many.
+pub record AppliesSome (limit : ℕ) (names : Names) (old : Content) (b : List ℕ) (applied : ℕ) (new : Content) : Type 0 where
+  pub reading : Reading limit names b
+  pub has_applied : HasApplied names old reading.deliveries (due_after reading.payloads) applied new
+
+-- The same of each connection, in order, as many as its end says.
+abbrev pub AppliesEach : ℕ → Names → Content → List (List ℕ) → List Ended → Content → Type 0
+AppliesEach limit names old [] [] new = new ≡ old
+AppliesEach limit names old (b ∷ bs) (end ∷ ends) new = (mid : Content) × AppliesSome limit names old b end.applied mid × AppliesEach limit names mid bs ends new
+AppliesEach limit names old _ _ new = ⊥
+
+-- ---- With them.
 
 module _ {D : Type 0} (g : Ghosts D) where
   -- Connections with these bytes and ends lead from a content to another, which the closed files hold.

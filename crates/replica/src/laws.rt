@@ -2,7 +2,7 @@
 //!
 //! A law is a function with an empty body: its clauses are proved of the definitions themselves.
 
-ghost use Rattle.std.specs.Prelude.{◌≡◌, ◌↔◌, ◌⊎◌, ℕ, ◌+◌, ◌<◌, ◌≤◌, ◌++◌, Bool, true, false, List, [], ◌∷◌, length, drop, map, Option, None, Some};
+ghost use Rattle.std.specs.Prelude.{◌≡◌, ◌↔◌, ◌⊎◌, ℕ, ◌+◌, ◌<◌, ◌≤◌, ◌++◌, Bool, true, false, List, [], ◌∷◌, length, drop, map, Option, None, Some, IfOk};
 ghost use Rattle.std.specs.FinSet as set;
 ghost use Rattle.std.specs.List.{AllByRecursion};
 ghost use Rattle.sqlite.specs.Held.{state};
@@ -40,7 +40,11 @@ ghost use Rattle.replica.specs.Sent.{SentFor};
 ghost use Rattle.replica.specs.Standing.{Position, Stands, from_start, sends_on, end_of};
 ghost use Rattle.replica.specs.Over.{StandsOver};
 ghost use Rattle.replica.specs.Follow.{HandsOut, IsInFull};
-ghost use Rattle.replica.specs.File.{FilesHold, AreClosedWith, IsTurnedAway};
+ghost use Rattle.sqlite_wal.specs.Reads.{AreClean};
+ghost use Rattle.replica.specs.Capture.{Reads};
+ghost use Rattle.replica.specs.Replay.{AppliesEach, Replays};
+ghost use Rattle.replica.specs.Work.{WorksInFiles};
+ghost use Rattle.replica.specs.File.{FilesHold, HoldNone, OfHeld, AreClosedWith, IsTurnedAway};
 ghost use Rattle.replica.specs.Noted.{Account, IsExcluded, IsNotedOf, IsNotedSinceOpening, IsLeftOfNoted, Notice, opened, before, LeadsBy, applied_in, StillWaits, WereMissed};
 ghost use Rattle.replica.specs.Missing.{waits_for_none};
 ghost use Rattle.replica.specs.Feed.{FileLine, open_line, whole_line, Reader, at_first, read_line, read_file, with_changes, AreFed, all_lines};
@@ -48,11 +52,15 @@ ghost use Rattle.replica.specs.Restart.{Starts, IsUncut, MayFindUnopened, AreSta
 ghost use Rattle.replica.specs.Resume.{Resumes, Leads, Reaches, AreRestarts, NeverFalls, part_changes, transaction, table_changes, transactions, end_reason};
 
 use crate::file::Unopened;
+use crate::file::replaying::Replayed;
+use crate::file::work::{InFile, Work};
 use crate::session::Session;
+use crate::source::captures::Capture;
 use crate::source::connect::Connect;
 use crate::source::counted::Duplex;
 use sqlite::{Alter, Files};
 use sqlite_disk::Disk;
+use std::io::Read;
 use store::Store;
 
 /// A session that has read nothing begins at any store, with the content that the store holds.
@@ -402,4 +410,31 @@ pub fn at_source()
         → HasSourceRows names log a → HasSourceRows names log b → a.executed ≡ b.executed
         → (schema table : List ℕ) (cells : List CellValue) → admits names schema table ≡ true
         → a.rows (row_of schema table cells) ≡ b.rows (row_of schema table cells) }
+{}
+
+/// What a replay of captured connections ([`replay`](crate::replay), clause `replays`) leaves in files that had no database, and what is
+/// then done with the database in these files, or in what a crash leaves of them ([`in_file`](crate::in_file), clause `works`), as a
+/// list by a lister: it is done with the content that the first transactions of each connection make of the empty one. Who reads that
+/// need not read what files hold, and not why a connection ends.
+pub fn replayed_and_listed<D: Disk, R: Read, E: Disk, K: Work>(
+    _captures: &[Capture<R>],
+    _replayed: &Replayed<D>,
+    _was: &K,
+    _is: &K,
+    _made: &InFile<K::Done, E>,
+)
+    ensures { (limit : ℕ) (wanted only : Option Names) (first next : Image) → HoldNone first
+        → OfHeld wanted first (λ names content.
+        Replays R.Read.remaining limit names content _captures.now _replayed.now)
+        → OfHeld only next (λ names content. WorksInFiles names
+        (K.leads _was.now _is.now names content _made.now.done)
+        (K.leaves _was.now _is.now names content _made.now.done) _made.now.closed)
+        → IfOk _replayed.now.closed (λ files. AreClean D.Disk files.log files.db
+        → outcomes D.Disk files.log files.db next
+        → Reads R.Read.remaining (λ bs ends. (new : Content)
+        × AppliesEach limit (names_for wanted) nothing bs ends new
+        × WorksInFiles (names_for wanted)
+        (K.leads _was.now _is.now (names_for wanted) new _made.now.done)
+        (K.leaves _was.now _is.now (names_for wanted) new _made.now.done) _made.now.closed)
+        _captures.now _replayed.now.ends.items _replayed.now.read) }
 {}

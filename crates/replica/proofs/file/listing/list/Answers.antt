@@ -1,4 +1,4 @@
-use Rattle.replica.proofs.Names.{◌≡◌, ◌∙◌, inl, inr, Bool, true, false, Result, Ok, ap, refl, subst, Ids, Names}
+use Rattle.replica.proofs.Names.{◌≡◌, ◌∙◌, inl, inr, false, Ok, ap, refl, subst, Ids, Names}
 use Rattle.replica.proofs.ClearStore.{stays_whole, stays_listed}
 use Rattle.replica.proofs.file.listing.list.Goals as goal
 
