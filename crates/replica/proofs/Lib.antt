@@ -54,6 +54,7 @@ pub mod RowDeletes
 pub mod ClearStore
 pub mod ClearFiles
 pub mod ContentStays
+pub mod AdmitStore
 pub mod AdoptStore
 pub mod SourceLogs
 pub mod ListedAgain

@@ -40,4 +40,5 @@ pub mod Clearing
 pub mod ClearFile
 pub mod SourceLog
 pub mod Work
+pub mod Admit
 pub mod Adopt

@@ -13,6 +13,7 @@ ghost use Rattle.store.specs.Store.{Holds, connection, database, names_of};
 ghost use Rattle.store.specs.Entering.{IsWanted, wanted_of, names_for};
 ghost use Rattle.replica.specs.File.{OfHeld, LeavesContent, IsOpenedIn, IsTurnedAway, IsNotOpened};
 
+pub(crate) mod admitting;
 pub(crate) mod adopting;
 pub(crate) mod changed;
 pub(crate) mod cleared;

@@ -11,7 +11,7 @@
 //! it, and [`follow_file`] does so with a source that is followed over a stream of two directions, such as a socket
 //! ([`Duplex`]), and that is reached once the database is open ([`Connect`]); [`change_file`] applies transactions that
 //! come from no connection ([`Deliveries`](gather::Deliveries)), [`load_file`] those of a [`FirstCopy`] of tables, if it may be loaded,
-//! [`clear_file`] takes all rows of one table out, and [`in_file`] does any other [`Work`] with its store: [`Adopting`] adds a
+//! [`clear_file`] takes all rows of one table out, [`admit_file`] has it follow more tables, and [`in_file`] does any other [`Work`] with its store: [`Adopting`] adds a
 //! set to the executed one, and a [`Lister`] reads the set, the filter and the rows. [`open_file`] and [`close_file`] are
 //! their first and their last step. An
 //! [`Observer`] is called with what is read and applied, and may stop it; [`Until`] is one that stops once nothing of a
@@ -39,6 +39,7 @@ pub use change::changing::ChangeEnd;
 pub use change::clearing::ClearEnd;
 pub use change::loading::{FirstCopy, LoadEnd, QualifiedName, Unloadable};
 pub use change::marks::{ended_mark, given_up_mark, is_mark, unfinished_copy};
+pub use file::admitting::{Admission, AdmitFault, admit_file};
 pub use file::adopting::{AdoptFault, Adopting};
 pub use file::changed::{ChangedFile, change_file};
 pub use file::cleared::{ClearedFile, clear_file};

@@ -16,6 +16,7 @@ root = os.path.abspath(sys.argv[1])
 # The functions that have a `HostRuntime`, and what each gives it to.
 FUNCTIONS = {
     'crates/replica/src/file/changed.rt': {'change_file': ['open_file']},
+    'crates/replica/src/file/admitting.rt': {'admit_file': ['open_file']},
     'crates/replica/src/file/cleared.rt': {'clear_file': ['open_file']},
     'crates/replica/src/file.rt': {'open_file': ['RandomState::new', 'open_pair', 'connect_to']},
     'crates/replica/src/file/connection.rt': {

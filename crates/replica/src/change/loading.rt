@@ -195,7 +195,11 @@ fn why_not_had(
 }
 
 /// A copy of the name of a table.
-fn name_of(alloc: Global, schema: &[u8], table: &[u8]) -> Result<QualifiedName, AllocError>
+pub(crate) fn name_of(
+    alloc: Global,
+    schema: &[u8],
+    table: &[u8],
+) -> Result<QualifiedName, AllocError>
     ensures schema { IfOk result (λ name. name.schema.items ≡ schema.now) }
     ensures table { IfOk result (λ name. name.table.items ≡ table.now) }
 {
