@@ -292,7 +292,7 @@ static READING: [CommandRow; 5] = [
 ];
 
 /// The commands over a database, and what helps with the command line.
-static OTHERS: [CommandRow; 12] = [
+static OTHERS: [CommandRow; 13] = [
     CommandRow(
         "show",
         "Print the rows of a database: table, count, cells",
@@ -422,6 +422,19 @@ static OTHERS: [CommandRow; 12] = [
         "Record a GTID set as executed without changes, and print what was new of it",
         &[DB, SET],
         "Example:\n  mrep adopt --db F.db 3e11fa47-71ca-11e1-9e33-c80aa9429562:1-1000",
+    ),
+    CommandRow(
+        "admit",
+        "Have a database follow more tables, of which no transaction so far has changed a row, and print them",
+        &[
+            DB,
+            Argument(
+                "SCHEMA.TABLE",
+                Kind::Words,
+                "A table that is to be followed too; of a database that keeps no rows also SCHEMA.*, all tables of the schema",
+            ),
+        ],
+        "Example, of a table that has just been made:\n  mrep admit --db F.db shop.returns && mrep follow --db F.db --only shop.items --only shop.returns ..",
     ),
     CommandRow(
         "skip",

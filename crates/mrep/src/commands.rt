@@ -4,6 +4,7 @@ ghost use Rattle.std.specs.Prelude.{◌≡◌, ◌≤◌, IfOk, IfSome};
 
 pub mod abandon;
 pub mod account;
+pub mod admit;
 pub mod clear;
 pub mod copy;
 pub mod export_file;
@@ -19,6 +20,7 @@ pub mod skip;
 pub mod verify;
 
 use crate::commands::abandon::abandon;
+use crate::commands::admit::admit;
 use crate::commands::clear::clear;
 use crate::commands::copy::copy;
 use crate::commands::export_file::export;
@@ -122,6 +124,7 @@ fn only_prints(name: &str) -> bool {
             | "clear"
             | "abandon"
             | "adopt"
+            | "admit"
             | "skip"
             | "copy"
             | "export"
@@ -211,6 +214,7 @@ fn run_named<'a, W: Write, E: Write>(
         "abandon" => abandon(rt, given, out, err),
         "show" | "tables" | "info" | "gtids" | "missing" => read(rt, name, given, out, err),
         "adopt" => adopt(rt, given, out),
+        "admit" => admit(rt, given, out),
         "skip" => skip(rt, given, out),
         "copy" => copy(rt, given),
         "export" => export(rt, given, err),

@@ -20,7 +20,8 @@ use store::{Listed, Lister, Visitor};
 /// How many processes may read copies of one database at a time.
 const READERS: u32 = 64;
 
-const FOREIGN: &str =
+/// Of a database without tables of this program.
+pub const FOREIGN: &str =
     "it has tables, and none of mrep: name the file that follow, replay or load has made";
 
 const READ_BY_MANY: &str =

@@ -15,10 +15,10 @@ use export::TablesFault;
 use feed::SkipError;
 use files::FileFault;
 use first_copy::CopyFault;
-use formats::{Quoted, Shown, write_named};
+use formats::{Quoted, Shown, write_named, write_table};
 use gtid::GtidFault;
 use messages::write_unloadable;
-use replica::{NoMemory, Unloadable};
+use replica::{NoMemory, QualifiedName, Unloadable};
 use rows::{Misfit, RowError};
 use std::alloc::{AllocError, AllocFailed, Global};
 use std::fmt::Display;
@@ -305,6 +305,25 @@ pub fn of_other_tables(alloc: Global, name: &str) -> Failure
 fn write_other_tables(name: &str, message: &mut Vec<u8>) -> io::Result<()> {
     write_named(name, &OTHER_TABLES, message)?;
     write_tables_of(name, message)
+}
+
+/// The database file of this name follows a table by now that was to be added.
+pub fn of_followed(alloc: Global, name: &str, table: &QualifiedName) -> Failure
+    ensures { IsTold kinds.Files result }
+{
+    let mut message = Vec::new(alloc);
+    let written = write_followed(name, table, &mut message);
+    let files = FailureKind::Files;
+    told(files, message, written)
+}
+
+fn write_followed(name: &str, table: &QualifiedName, message: &mut Vec<u8>) -> io::Result<()> {
+    write!(message, "mrep: {}: it follows ", Shown(name))?;
+    write_table(&table.schema, &table.table, message)?;
+    writeln!(
+        message,
+        " already: `mrep info` says which tables it follows"
+    )
 }
 
 /// The tables of the database file of this name are damaged.

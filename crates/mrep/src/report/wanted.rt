@@ -59,7 +59,7 @@ fn not_kept(alloc: Global, names: &[(Vec<u8>, Vec<u8>)]) -> Result<Option<Follow
 }
 
 /// Whether one of the names means all tables of a schema, where no rows are kept.
-fn has_pattern(filter: &Follow) -> bool {
+pub fn has_pattern(filter: &Follow) -> bool {
     filter
         .names()
         .iter()
