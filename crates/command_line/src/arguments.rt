@@ -41,6 +41,8 @@ const FEED_ONLY: &[u8] =
 
 const NEW_FEED: &[u8] = b"mrep: --new-feed needs --feed-only\n";
 
+const CHAIN: &[u8] = b"mrep: --chain needs --changes FILE, a file on a disk\n";
+
 const NO_COLUMNS: &[u8] = b"mrep: --format tsv and sql need --columns\n";
 
 /// Why arguments are not what they should be.
@@ -85,6 +87,8 @@ pub enum ArgumentFault<'a> {
     FeedOnly,
     /// Another file of changes is to be begun, and rows are kept.
     NewFeed,
+    /// The lines of commits are to have a chain, and go to no file.
+    Chain,
     /// An allocation was refused.
     Memory,
 }
@@ -118,6 +122,7 @@ impl ArgumentFault<'_> {
             ArgumentFault::Columns => err.write_all(NO_COLUMNS),
             ArgumentFault::FeedOnly => err.write_all(FEED_ONLY),
             ArgumentFault::NewFeed => err.write_all(NEW_FEED),
+            ArgumentFault::Chain => err.write_all(CHAIN),
             ArgumentFault::Memory => err.write_all(b"mrep: out of memory\n"),
         }
     }

@@ -143,6 +143,13 @@ const BYTES: Argument = Argument(
     "Write bytes in JSON lines as text where they are UTF-8, as hexadecimal digits or as base64. Without it: hex, and with --columns base64",
 );
 
+/// That the lines of commits have a chain.
+const CHAIN: Argument = Argument(
+    "chain",
+    Kind::Flag,
+    "End each line of a commit in the file of --changes with the SHA-256 of what stands before it and of the one before, which shows later changes of the file",
+);
+
 /// The description of the columns.
 const COLUMNS: Argument = Argument(
     "columns",
@@ -224,6 +231,7 @@ static READING: [CommandRow; 5] = [
             CHANGES,
             CHANGE_COLUMNS,
             BYTES,
+            CHAIN,
             ONLY,
             FEED_ONLY,
             NEW_FEED,
@@ -281,6 +289,7 @@ static READING: [CommandRow; 5] = [
             CHANGES,
             CHANGE_COLUMNS,
             BYTES,
+            CHAIN,
             ONLY,
             FEED_ONLY,
             NEW_FEED,
@@ -451,6 +460,7 @@ static OTHERS: [CommandRow; 13] = [
                 Kind::Text("FILE"),
                 "Write to this file of a change feed that the transaction is skipped",
             ),
+            CHAIN,
         ],
         "Example:\n  mrep skip --db F.db 3e11fa47-71ca-11e1-9e33-c80aa9429562:7",
     ),
@@ -499,6 +509,7 @@ static COPYING: [CommandRow; 4] = [
             PROGRESS,
             CHANGES,
             BYTES,
+            CHAIN,
             ONLY,
             FEED_ONLY,
             NEW_FEED,
@@ -528,6 +539,7 @@ static COPYING: [CommandRow; 4] = [
             CHANGES,
             CHANGE_COLUMNS,
             BYTES,
+            CHAIN,
             FEED_ONLY,
             NEW_FEED,
             Argument("SCHEMA.TABLE", Kind::Word, "The table"),
@@ -542,6 +554,7 @@ static COPYING: [CommandRow; 4] = [
             CHANGES,
             CHANGE_COLUMNS,
             BYTES,
+            CHAIN,
             FEED_ONLY,
             NEW_FEED,
             Argument("SCHEMA.TABLE", Kind::Words, "A table of the copy"),

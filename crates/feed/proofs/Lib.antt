@@ -1,2 +1,3 @@
+mod Hashed
 mod Spans
 mod Threads

@@ -1,3 +1,4 @@
+pub mod Chain
 pub mod Seconds
 pub mod Stamps
 pub mod Statements

@@ -2,8 +2,9 @@
 //!
 //! The changes of a transaction are written before they are committed. What is written to a file is synced, but for the line of
 //! a commit: so no change is missing that the database has. After the commit a line says so. A feed begins with the executed set of the database, which says
-//! of the last transaction of an earlier run whether it was committed.
+//! of the last transaction of an earlier run whether it was committed. If it is asked for, each line of a commit has a chain.
 
+use crate::chain::Chain;
 use crate::stamps::Stamps;
 use binlog::ColumnType;
 use columns::DescribedTable;
@@ -50,6 +51,8 @@ pub struct Feed {
     file: Option<FeedFile>,
     /// How bytes are printed, where there are any.
     encoding: Option<Encoding>,
+    /// The chain of the lines of commits, where it is asked for.
+    chain: Option<Chain>,
     alloc: Global,
 }
 
@@ -59,25 +62,35 @@ impl Feed {
         Feed {
             file: None,
             encoding: Some(encoding),
+            chain: None,
             alloc,
         }
     }
 
     /// A feed to the end of a file, which is made if it does not exist, or to a pipe or a device. A file must be none of
-    /// those that the command uses, the database, what lies beside it and the others, and no other process's feed.
+    /// those that the command uses, the database, what lies beside it and the others, and no other process's feed. The lines of
+    /// commits have a chain exactly if that is asked for: it needs a file on a disk, and one that has a chain is for it alone.
     pub fn to_file(
         rt: &HostRuntime,
         name: &str,
         db: &str,
         others: &[&str],
         encoding: Option<Encoding>,
+        is_chained: bool,
     ) -> Result<Feed, FileFault> {
         let file = FeedFile::open(rt, name, db, others)?;
-        Ok(Feed {
-            file: Some(file),
-            encoding,
-            alloc: rt.alloc(),
-        })
+        match Chain::of(rt.alloc(), &file, is_chained) {
+            Ok(chain) => Ok(Feed {
+                file: Some(file),
+                encoding,
+                chain,
+                alloc: rt.alloc(),
+            }),
+            Err(fault) => {
+                file.discard(rt, name);
+                Err(fault)
+            }
+        }
     }
 
     /// Gives the feed up, and removes its file if that was made for it and is still empty.
@@ -99,6 +112,11 @@ impl Feed {
             Some(file) => file.can_cut(),
             None => false,
         }
+    }
+
+    /// Whether the lines of commits have a chain.
+    pub fn has_chain(&self) -> bool {
+        self.chain.is_some()
     }
 
     /// Whether the feed goes to a file that has nothing yet.
@@ -142,7 +160,12 @@ impl Feed {
             try_entry(form, entry)?;
         }
         let begin = file.begin()?;
-        let written = write_to_file(form, entry, file);
+        let written = match (&mut self.chain, entry) {
+            (Some(chain), FeedEntry::Committed(gtid, count)) => {
+                write_link(form, gtid, count, file, chain)
+            }
+            (chain, _) => write_to_file(form, entry, file, chain.is_some()),
+        };
         if written.is_err() {
             file.cut(begin);
         }
@@ -181,8 +204,15 @@ fn write_to_output<O: Write>(
     Ok(())
 }
 
-/// Writes an entry to a file, and syncs it unless it says that a transaction was committed, or is nothing.
-fn write_to_file(form: Form<'_>, entry: FeedEntry<'_>, file: &FeedFile) -> Result<(), RowError> {
+/// Writes an entry to a file, and syncs it unless it says that a transaction was committed, or is nothing. Where lines of commits
+/// have a chain, nothing is a reason to sync too: so the line of a commit is on the disk before the next one is written, and no
+/// power failure leaves the later one alone.
+fn write_to_file(
+    form: Form<'_>,
+    entry: FeedEntry<'_>,
+    file: &FeedFile,
+    has_chain: bool,
+) -> Result<(), RowError> {
     let mut writer = BufWriter::new(form.alloc, file.append())?;
     let flushed = match write_entry(form, entry, &mut writer) {
         Ok(()) => writer.flush().map_err(RowError::Output),
@@ -192,10 +222,28 @@ fn write_to_file(form: Form<'_>, entry: FeedEntry<'_>, file: &FeedFile) -> Resul
     let _ = writer.into_parts();
     flushed?;
     match entry {
-        FeedEntry::Changes(delivery) if delivery.changes.is_empty() => {}
+        FeedEntry::Changes(delivery) if delivery.changes.is_empty() && !has_chain => {}
         FeedEntry::Committed(..) => {}
         _ => file.sync()?,
     }
+    Ok(())
+}
+
+/// Writes the line of a commit with its chain to a file.
+fn write_link(
+    form: Form<'_>,
+    gtid: Gtid,
+    count: usize,
+    file: &FeedFile,
+    chain: &mut Chain,
+) -> Result<(), RowError> {
+    let mut line = Vec::new(form.alloc);
+    write_commit(form.stamps, gtid, count, &mut line)?;
+    let digits = chain.next(form.alloc, file, &line)?;
+    writeln!(line, ",\"chain\":\"{digits}\"}}")?;
+    let mut out = file.append();
+    out.write_all(&line)?;
+    chain.go_on(form.alloc, digits.as_str(), file.length()?)?;
     Ok(())
 }
 
@@ -240,7 +288,10 @@ fn write_entry<W: Write>(
             schema,
             table,
         } => write_emptied(form.alloc, gtid, schema, table, out)?,
-        FeedEntry::Committed(gtid, count) => write_commit(form.stamps, gtid, count, out)?,
+        FeedEntry::Committed(gtid, count) => {
+            write_commit(form.stamps, gtid, count, out)?;
+            out.write_all(b"}\n")?;
+        }
         FeedEntry::RolledBack(gtid) => {
             writeln!(out, "{{\"type\":\"rollback\",\"gtid\":\"{gtid}\"}}")?;
         }
@@ -295,7 +346,7 @@ struct ChangePlace<'t> {
     text: Option<&'t [u8]>,
 }
 
-/// Writes the line of a transaction that has been committed.
+/// Writes the line of a transaction that has been committed, up to its last member.
 fn write_commit<W: Write>(
     stamps: &Stamps,
     gtid: Gtid,
@@ -318,7 +369,7 @@ fn write_commit<W: Write>(
     if let Some(thread) = stamps.thread {
         write!(out, ",\"thread\":{thread}")?;
     }
-    out.write_all(b"}\n")
+    Ok(())
 }
 
 /// Writes the line of a table of which all rows go.

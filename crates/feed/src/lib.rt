@@ -6,6 +6,7 @@
 //! What [`Stamps`] holds after an event has a contract; what the lines say is tested.
 #![tactic(auto)]
 
+mod chain;
 mod change_feed;
 mod seconds;
 mod skip_feed;

@@ -16,6 +16,8 @@ pub struct SkipFeed<'a> {
     pub name: &'a str,
     /// The name of the database.
     pub db: &'a str,
+    /// Whether the lines of commits have a chain.
+    pub is_chained: bool,
 }
 
 /// A feed that has said that a transaction is to be skipped.
@@ -39,8 +41,13 @@ impl SkipFeed<'_> {
     /// Writes the executed set, so that no changes of the transaction count that were written before, and that it is to be
     /// skipped.
     pub fn begin(self, alloc: Global, executed: &str, gtid: Gtid) -> Result<Skipping, SkipError> {
-        let SkipFeed { rt, name, db } = self;
-        let feed = match Feed::to_file(rt, name, db, &[], None) {
+        let SkipFeed {
+            rt,
+            name,
+            db,
+            is_chained,
+        } = self;
+        let feed = match Feed::to_file(rt, name, db, &[], None, is_chained) {
             Ok(feed) => feed,
             Err(fault) => return Err(SkipError::File(fault)),
         };

@@ -4,7 +4,7 @@ use crate::fault::FileFault;
 use crate::what_is_named::{PRIVATE, is_empty, is_named, sync_name};
 use std::alloc::AllocError;
 use std::fs::{File, OpenOptions, TryLockError};
-use std::io::ErrorKind;
+use std::io::{ErrorKind, Seek, SeekFrom};
 use std::os::unix::fs::{FileExt, OpenOptionsExt};
 use std::{fs, io};
 
@@ -136,6 +136,23 @@ impl FeedFile {
             self.is_cut = false;
         }
         Ok(length)
+    }
+
+    /// How many bytes it has.
+    pub fn length(&self) -> io::Result<u64> {
+        Ok(self.file.metadata()?.len())
+    }
+
+    /// Fills the room with the bytes at a place of a file on a disk.
+    pub fn read_at(&self, at: u64, room: &mut [u8]) -> io::Result<()> {
+        self.file.read_exact_at(room, at)
+    }
+
+    /// A file on a disk as what is read, from a place on.
+    pub fn read_from(&self, at: u64) -> io::Result<&File> {
+        let mut file = &self.file;
+        file.seek(SeekFrom::Start(at))?;
+        Ok(file)
     }
 
     /// The file as what is written to its end.

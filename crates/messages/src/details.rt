@@ -19,9 +19,25 @@ const SKIP: &str = "to leave it out, and lose the rows it has";
 
 const SKIP_DEFINITION: &str = "to leave it out, if it changes no followed table";
 
+const THEN_LOAD: &str = ", and then mrep load where the table has rows";
+
+const NO_ROWS_BACK: &str =
+    ", and where the table has rows, begin a new database by a first copy: none is loaded into this one";
+
 /// The words of SQL before a password or its hash (MySQL Reference Manual, "CREATE USER Statement", "SET PASSWORD
 /// Statement").
 const SECRETS: [&[u8]; 2] = [b"IDENTIFIED", b"PASSWORD"];
+
+/// The database of a command, as a command that is named for it is given it.
+#[derive(Clone, Copy)]
+pub struct Given<'a> {
+    /// Its name.
+    pub db: &'a str,
+    /// The file of changes, where it keeps no rows.
+    pub feed: Option<&'a str>,
+    /// Whether the lines of commits there have a chain.
+    pub has_chain: bool,
+}
 
 /// The transaction at hand, and lines of text that say where in it the connection has ended.
 #[derive(Drop)]
@@ -85,7 +101,7 @@ impl Details {
     pub fn write<E: Write>(
         &self,
         stream: &str,
-        db: &str,
+        given: Given<'_>,
         can_skip: bool,
         err: &mut E,
     ) -> io::Result<()> {
@@ -96,7 +112,7 @@ impl Details {
             write_noted(stream, ROWS, err)?;
         }
         match self.gtid {
-            Some(gtid) => self.write_ways(stream, db, gtid, can_skip, err),
+            Some(gtid) => self.write_ways(stream, given, gtid, can_skip, err),
             None => Ok(()),
         }
     }
@@ -105,7 +121,7 @@ impl Details {
     fn write_ways<E: Write>(
         &self,
         stream: &str,
-        db: &str,
+        given: Given<'_>,
         gtid: Gtid,
         can_skip: bool,
         err: &mut E,
@@ -114,10 +130,10 @@ impl Details {
         writeln!(err, "in transaction {gtid}")?;
         match self.ways(can_skip) {
             Ways::None => Ok(()),
-            Ways::Skip => write_skip(stream, SKIP, db, gtid, err),
+            Ways::Skip => write_skip(stream, SKIP, given, gtid, err),
             Ways::SkipOrClear => {
-                write_skip(stream, SKIP_DEFINITION, db, gtid, err)?;
-                write_clear(stream, db, gtid, self.executed_text().as_ref(), err)
+                write_skip(stream, SKIP_DEFINITION, given, gtid, err)?;
+                write_clear(stream, given, gtid, self.executed_text().as_ref(), err)
             }
         }
     }
@@ -176,37 +192,57 @@ fn write_noted<E: Write>(stream: &str, line: &[u8], err: &mut E) -> io::Result<(
 fn write_skip<E: Write>(
     stream: &str,
     purpose: &str,
-    db: &str,
+    given: Given<'_>,
     gtid: Gtid,
     err: &mut E,
 ) -> io::Result<()> {
     write_begin(stream, err)?;
-    writeln!(err, "{purpose}: mrep skip --db {} {gtid}", Quoted(db))
+    write!(err, "{purpose}: mrep skip --db {}", Quoted(given.db))?;
+    write_feed(given, err)?;
+    writeln!(err, " {gtid}")
+}
+
+/// Writes the options of the file of changes, where no rows are kept.
+fn write_feed<E: Write>(given: Given<'_>, err: &mut E) -> io::Result<()> {
+    let Some(feed) = given.feed else {
+        return Ok(());
+    };
+    write!(err, " --changes {}", Quoted(feed))?;
+    if given.has_chain {
+        err.write_all(b" --chain")?;
+    }
+    Ok(())
 }
 
 /// Writes how a table is cleared whose rows a statement has changed, after this set; where it is not known, it is what the
 /// database has executed.
 fn write_clear<E: Write>(
     stream: &str,
-    db: &str,
+    given: Given<'_>,
     gtid: Gtid,
     executed: Option<&String>,
     err: &mut E,
 ) -> io::Result<()> {
     write_begin(stream, err)?;
-    let db = Quoted(db);
+    let db = Quoted(given.db);
     write!(
         err,
-        "if it alters or empties a followed table: mrep clear --db {db} --gtid {gtid} --at "
+        "if it alters or empties a followed table: mrep clear --db {db}"
     )?;
+    if given.feed.is_some() {
+        err.write_all(b" --feed-only")?;
+    }
+    write_feed(given, err)?;
+    write!(err, " --gtid {gtid} --at ")?;
     match executed {
         Some(set) => write!(err, "'{set}'")?,
         None => write!(err, "\"$(mrep gtids --db {db})\"")?,
     }
-    writeln!(
-        err,
-        " SCHEMA.TABLE, and then mrep load where the table has rows"
-    )
+    let then = match given.feed {
+        Some(_) => NO_ROWS_BACK,
+        None => THEN_LOAD,
+    };
+    writeln!(err, " SCHEMA.TABLE{then}")
 }
 
 /// Writes the statement of a QUERY event that is not supported, or the table and the column of a table map that is not.

@@ -14,7 +14,7 @@ mod refused;
 mod statement;
 mod unloadable;
 
-pub use details::Details;
+pub use details::{Details, Given};
 pub use fault_name::{event_reason, wire_reason};
 pub use kept::{KEEPS_NONE, KEEPS_ROWS, NEW_FEED, NO_FILE};
 pub use reason::{HaltCause, can_skip, write_advice, write_cause, write_end, write_reason};

@@ -50,7 +50,8 @@ pub enum Unopened<D: Disk> {
 ///
 /// `start` stands for what the files held before: the clauses say of each content of them what follows from it. They say
 /// nothing of which file the path names, and of a file that another program writes. `expected` is how many bytes are about
-/// to be written, as far as is known: the more, the more pages are kept in memory, from 4 to 16 MiB.
+/// to be written, as far as is known: the more, the more pages are kept in memory, from 4 to 16 MiB; by a list of which no rows are
+/// kept 4 MiB.
 ///
 /// Clauses:
 /// - `opens`, `entered`, `leaves`: the store holds what the files held, and a crash leaves it
@@ -89,6 +90,7 @@ pub fn open_file<P: Start>(
         Ok(files) => files,
         Err(why) => return Err(Unopened::NotOpened(why)),
     };
+    let expected = growth(only, expected);
     let conn = match connect_to(rt, path, files, expected, random.hash_one(&0u8)) {
         Ok(conn) => conn,
         Err((cause, left)) => return Err(Unopened::Files(cause, left)),
@@ -96,6 +98,14 @@ pub fn open_file<P: Start>(
     match Store::open_for(rt.alloc(), conn, only) {
         Ok(store) => Ok(store),
         Err((cause, conn)) => Err(Unopened::Database(cause, conn)),
+    }
+}
+
+/// How many bytes a database of these tables is expected to grow by: by none where it keeps no rows.
+fn growth(only: Option<&Follow>, expected: u64) -> u64 {
+    match only {
+        Some(filter) if !filter.keeps_rows() => 0,
+        _ => expected,
     }
 }
 

@@ -11,7 +11,9 @@ use feed::{Feed, FeedEntry, OUTPUT, Stamps};
 use formats::{Shown, text_of};
 use gather::Delivery;
 use gtid::GtidSet;
-use messages::{Details, HaltCause, can_skip, write_advice, write_cause, write_end, write_refused};
+use messages::{
+    Details, Given, HaltCause, can_skip, write_advice, write_cause, write_end, write_refused,
+};
 use replica::{Ended, Observer, Reason, Refusal, unfinished_copy};
 use rows::{Chosen, DescribedTables, Misfit, RowError};
 use std::io;
@@ -293,6 +295,24 @@ impl<'a, O: Write, E: Write> Watch<'a, O, E> {
         }
     }
 
+    /// What a command is given that answers an end.
+    fn given(&self) -> Given<'a> {
+        let feed = if self.source.feed_only {
+            Some(self.source.changes)
+        } else {
+            None
+        };
+        let has_chain = match &self.feed {
+            Some(feed) => feed.has_chain(),
+            None => false,
+        };
+        Given {
+            db: self.source.db,
+            feed,
+            has_chain,
+        }
+    }
+
     /// Writes the cause of an end to standard error, and in which transaction it was.
     fn explain(&mut self, stream: &str, reason: &Reason)
         ensures { self.new.stop ≡ self.old.stop }
@@ -301,7 +321,8 @@ impl<'a, O: Write, E: Write> Watch<'a, O, E> {
         let _ = write_cause(stream, db, self.halt(), reason, self.err);
         let _ = write_advice(stream, reason, self.err);
         if let Some(can_skip) = can_skip(reason, self.source.port != 0) {
-            let _ = self.details.write(stream, db, can_skip, self.err);
+            let given = self.given();
+            let _ = self.details.write(stream, given, can_skip, self.err);
         }
         self.details.clear();
     }

@@ -113,7 +113,7 @@ fn mark<W: Write, E: Write>(
     out: &mut W,
     err: &mut E,
 ) -> Result<(), Failure> {
-    let kept = wanted.kept_for_copy(rt)?;
+    let (kept, _) = wanted.kept_for_copy(rt)?;
     let (pulse, reports) = wanted.reports(rt, None, &[], err)?;
     let reports = wanted.unless_anew(rt, kept, reports)?;
     let mut watch = Watch::new(wanted.copy_source(rt), &pulse, reports, out, err);

@@ -81,8 +81,8 @@ fn load_rows<W: Write, E: Write>(
     out: &mut W,
     err: &mut E,
 ) -> Result<(), Failure> {
-    let kept = wanted.kept_for_copy(rt)?;
-    let only = wanted.only_for(rt.alloc(), kept)?;
+    let (kept, own) = wanted.kept_for_copy(rt)?;
+    let only = wanted.only_for(rt.alloc(), kept, own)?;
     let (pulse, reports) = wanted.reports(rt, Some(size), &[file.name], err)?;
     let reports = wanted.unless_anew(rt, kept, reports)?;
     let rows = file.rows(rt, summary, &pulse)?;

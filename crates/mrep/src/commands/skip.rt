@@ -6,10 +6,10 @@ ghost use Rattle.gather.specs.View.{delivery_value};
 use crate::commands::clear::failure_of;
 use crate::database::open::{closed, opened, opening};
 use crate::report::failure::{
-    DONE, Failure, MEMORY, of_database, of_skip, over_argument, unusable,
+    DONE, Failure, MEMORY, of_argument, of_database, of_skip, over_argument, unusable,
 };
 use clap::ArgMatches;
-use command_line::{parse_gtid, word};
+use command_line::{ArgumentFault, parse_gtid, word};
 use feed::SkipFeed;
 use gather::{Changes, Delivery};
 use gtid::{Gtid, GtidSet};
@@ -38,7 +38,8 @@ pub fn skip<'a, W: Write>(
     if is_mark(gtid) {
         return Err(unusable(rt.alloc(), name, MARK));
     }
-    if skip_in(rt, word(given, "db"), gtid, skip_feed(rt, given))? {
+    let feed = skip_feed(rt, given)?;
+    if skip_in(rt, word(given, "db"), gtid, feed)? {
         writeln!(out, "Done")?;
     } else {
         writeln!(out, "Repeat")?;
@@ -81,13 +82,21 @@ fn fed(
 }
 
 /// The change feed, if one is asked for.
-fn skip_feed<'a>(rt: &'a HostRuntime, given: &ArgMatches<'a>) -> Option<SkipFeed<'a>> {
-    let name = given.get_str("changes")?;
-    Some(SkipFeed {
-        rt,
-        name,
-        db: word(given, "db"),
-    })
+fn skip_feed<'a>(
+    rt: &'a HostRuntime,
+    given: &ArgMatches<'a>,
+) -> Result<Option<SkipFeed<'a>>, Failure> {
+    let is_chained = given.get_flag("chain");
+    match given.get_str("changes") {
+        Some(name) => Ok(Some(SkipFeed {
+            rt,
+            name,
+            db: word(given, "db"),
+            is_chained,
+        })),
+        None if is_chained => Err(of_argument(rt.alloc(), ArgumentFault::Chain)),
+        None => Ok(None),
+    }
 }
 
 /// A transaction of this GTID, without changes.

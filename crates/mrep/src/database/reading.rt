@@ -53,16 +53,32 @@ pub enum Kept {
     Unknown,
 }
 
-/// What the database of this name keeps, as it was before a command opens it.
-pub fn kept_in(rt: &HostRuntime, name: &str) -> Kept {
-    let mut kept = Kept::Unknown;
-    match list_in(rt, name, &mut kept) {
-        Ok(Ok(())) => kept,
-        _ => Kept::Unknown,
+/// What the database of this name keeps, as it was before a command opens it, and its own filter where it keeps no rows.
+pub fn kept_in(rt: &HostRuntime, name: &str) -> (Kept, Option<Follow>) {
+    let mut keeping = Keeping {
+        alloc: rt.alloc(),
+        kept: Kept::Unknown,
+        own: None,
+    };
+    match list_in(rt, name, &mut keeping) {
+        Ok(Ok(())) => {
+            let Keeping { kept, own, .. } = keeping;
+            (kept, own)
+        }
+        _ => (Kept::Unknown, None),
     }
 }
 
-impl Visitor for Kept {
+/// What a database keeps, once it is listed.
+#[derive(Drop)]
+struct Keeping {
+    alloc: Global,
+    kept: Kept,
+    /// Its filter, where it keeps no rows, and memory has not run out.
+    own: Option<Follow>,
+}
+
+impl Visitor for Keeping {
     type Error = Infallible;
 
     ghost row_gives = { λ _ _ _ _. Unit {0} };
@@ -72,17 +88,22 @@ impl Visitor for Kept {
     }
 }
 
-impl Lister for Kept {
+impl Lister for Keeping {
     ghost begun = { λ _ _ _ _ _. Unit {0} };
 
     fn begin(&mut self, executed: &GtidSet, following: &Follow) -> Result<bool, Infallible> {
         let has_executed = executed.spans().next().is_some();
-        *self = match following.keeps_rows() {
+        self.kept = match following.keeps_rows() {
             false => Kept::None { has_executed },
             // One that has nothing yet may be a new one.
             true if following.names().is_empty() && !has_executed => Kept::Unknown,
             true => Kept::Rows,
         };
+        if let Kept::None { .. } = self.kept
+            && let Ok(own) = Follow::new(self.alloc, following.names())
+        {
+            self.own = Some(own);
+        }
         Ok(false)
     }
 }

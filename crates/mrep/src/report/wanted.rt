@@ -40,6 +40,8 @@ pub struct Wanted<'g, 'a> {
     feed_only: bool,
     /// Whether the file of changes may be a new one, where none are kept.
     new_feed: bool,
+    /// Whether the lines of commits in the file of changes have a chain.
+    is_chained: bool,
 }
 
 /// What was waited for: nothing is known of it where memory ran out.
@@ -80,6 +82,10 @@ impl<'g, 'a> Wanted<'g, 'a> {
         if new_feed && !feed_only {
             return Err(of_argument(alloc, ArgumentFault::NewFeed));
         }
+        let is_chained = given.get_flag("chain");
+        if is_chained && changes.unwrap_or(OUTPUT) == OUTPUT {
+            return Err(of_argument(alloc, ArgumentFault::Chain));
+        }
         Ok(Wanted {
             db: word(given, "db"),
             only: given.get_strs("only"),
@@ -91,39 +97,45 @@ impl<'g, 'a> Wanted<'g, 'a> {
             until: given.get_str("until"),
             feed_only,
             new_feed,
+            is_chained,
         })
     }
 
-    /// The filter of the database: of the tables that are named, or, where no rows are kept, of all for a new one. None is that
-    /// of the database.
+    /// The filter of the database: of the tables that are named, or, where no rows are kept, its own, which says so, and of all for
+    /// a new one. None is that of the database.
     pub fn only(&self, rt: &HostRuntime) -> Result<Option<Follow>, Failure> {
-        let kept = if self.feed_only {
+        let (kept, own) = if self.feed_only {
             kept_in(rt, self.db)
         } else {
-            Kept::Unknown
+            (Kept::Unknown, None)
         };
-        self.only_for(rt.alloc(), kept)
+        self.only_for(rt.alloc(), kept, own)
     }
 
-    /// The same, of a database that keeps this.
-    pub fn only_for(&self, alloc: Global, kept: Kept) -> Result<Option<Follow>, Failure> {
+    /// The same, of a database that keeps this, by its own filter.
+    pub fn only_for(
+        &self,
+        alloc: Global,
+        kept: Kept,
+        own: Option<Follow>,
+    ) -> Result<Option<Follow>, Failure> {
         let named = self.filter(alloc)?;
         if !self.feed_only {
             return Ok(named);
         }
         match (kept, named) {
             (Kept::Rows, _) => Err(unusable(alloc, self.db, KEEPS_ROWS)),
-            (Kept::None { .. }, None) => Ok(None),
+            (Kept::None { .. }, None) => Ok(own),
             (_, Some(named)) => not_kept(alloc, named.names()),
             (_, None) => not_kept(alloc, &[]),
         }
     }
 
-    /// What the database keeps into which a first copy is loaded, if it is what is asked for. The set of a copy is executed before
-    /// anything is reported, so an observer would refuse it too late.
-    pub fn kept_for_copy(&self, rt: &HostRuntime) -> Result<Kept, Failure> {
+    /// What the database keeps into which a first copy is loaded, if it is what is asked for, as [`kept_in`] says it. The set of a
+    /// copy is executed before anything is reported, so an observer would refuse it too late.
+    pub fn kept_for_copy(&self, rt: &HostRuntime) -> Result<(Kept, Option<Follow>), Failure> {
         match kept_in(rt, self.db) {
-            Kept::None { .. } if !self.feed_only => {
+            (Kept::None { .. }, _) if !self.feed_only => {
                 Err(unusable(rt.alloc(), self.db, KEEPS_NONE))
             }
             kept => Ok(kept),
@@ -344,7 +356,8 @@ impl<'g, 'a> Wanted<'g, 'a> {
         if name == OUTPUT {
             return Ok(Some(Feed::to_output(rt.alloc(), encoding)));
         }
-        match Feed::to_file(rt, name, self.db, others, Some(encoding)) {
+        let chained = self.is_chained;
+        match Feed::to_file(rt, name, self.db, others, Some(encoding), chained) {
             Ok(feed) if self.feed_only && !feed.is_on_disk() => {
                 feed.discard(rt, name);
                 Err(unusable(rt.alloc(), name, NO_FILE))
