@@ -47,7 +47,7 @@ fn check(rt: &HostRuntime, db: &str, tables: &Follow) -> Result<(), Failure> {
         Found::Foreign => return Err(unusable(rt.alloc(), db, FOREIGN)),
         _ => {}
     }
-    if has_pattern(tables) && !matches!(kept_in(rt, db), Kept::None { .. }) {
+    if has_pattern(tables) && !matches!(kept_in(rt, db).0, Kept::None { .. }) {
         return Err(unusable(rt.alloc(), db, BY_NAME));
     }
     Ok(())
