@@ -38,7 +38,10 @@ pub fn skip<'a, W: Write>(
     if is_mark(gtid) {
         return Err(unusable(rt.alloc(), name, MARK));
     }
-    let feed = skip_feed(rt, given)?;
+    let feed = skip_feed(rt, given);
+    if feed.is_none() && given.get_flag("chain") {
+        return Err(of_argument(rt.alloc(), ArgumentFault::Chain));
+    }
     if skip_in(rt, word(given, "db"), gtid, feed)? {
         writeln!(out, "Done")?;
     } else {
@@ -82,21 +85,14 @@ fn fed(
 }
 
 /// The change feed, if one is asked for.
-fn skip_feed<'a>(
-    rt: &'a HostRuntime,
-    given: &ArgMatches<'a>,
-) -> Result<Option<SkipFeed<'a>>, Failure> {
-    let is_chained = given.get_flag("chain");
-    match given.get_str("changes") {
-        Some(name) => Ok(Some(SkipFeed {
-            rt,
-            name,
-            db: word(given, "db"),
-            is_chained,
-        })),
-        None if is_chained => Err(of_argument(rt.alloc(), ArgumentFault::Chain)),
-        None => Ok(None),
-    }
+fn skip_feed<'a>(rt: &'a HostRuntime, given: &ArgMatches<'a>) -> Option<SkipFeed<'a>> {
+    let name = given.get_str("changes")?;
+    Some(SkipFeed {
+        rt,
+        name,
+        db: word(given, "db"),
+        is_chained: given.get_flag("chain"),
+    })
 }
 
 /// A transaction of this GTID, without changes.
