@@ -77,8 +77,7 @@ module _ {S : Type 0} (g : Ghosts S) (names : Names) (tables unkept : Names) whe
             after.following,
             old,
             subst (λ n. AreOf (state g before.conn).now.schema n old trees) (sym later) (subst (λ c. AreOf (state g before.conn).now.schema (widened before.following more) c trees) none (leaves trees left)),
-            refl,
-            refl,
+            (refl, refl),
           );
         }
 
@@ -92,13 +91,12 @@ module _ {S : Type 0} (g : Ghosts S) (names : Names) (tables unkept : Names) whe
       rest = it.rest;
       schema = (state g before.conn).now.schema;
       leaves = λ trees left. elim (leaves trees left) [
-        | inl whole ↦ (after.following, old, subst (λ n. AreOf (state g before.conn).now.schema n old trees) (sym later) whole, inl refl, refl)
+        | inl whole ↦ (after.following, old, subst (λ n. AreOf (state g before.conn).now.schema n old trees) (sym later) whole, (inl refl, refl))
         | inr wider ↦ (
           widened names more,
           old,
           subst (λ n. AreOf (state g before.conn).now.schema (widened n more) old trees) was (subst (λ c. AreOf (state g before.conn).now.schema (widened before.following more) c trees) none wider),
-          inr (more, stand, refl),
-          refl,
+          (inr (more, stand, refl), refl),
         )
       ];
     }
@@ -108,7 +106,7 @@ module _ {S : Type 0} (g : Ghosts S) (names : Names) (tables unkept : Names) whe
       executed = it.0.executed;
       rest = it.0.rest;
       schema = (state g before.conn).now.schema;
-      leaves = λ trees left. (after.following, old, subst (λ n. AreOf (state g before.conn).now.schema n old trees) (sym later) (leaves trees left), refl, refl);
+      leaves = λ trees left. (after.following, old, subst (λ n. AreOf (state g before.conn).now.schema n old trees) (sym later) (leaves trees left), (refl, refl));
     }
     not_admitted _ later it leaves = absurd it
 
