@@ -1,7 +1,7 @@
 //! The file of a change feed: how it is found, made, locked, written to its end, cut back and removed.
 
 use crate::fault::FileFault;
-use crate::what_is_named::{PRIVATE, is_empty, is_named, sync_name};
+use crate::what_is_named::{PRIVATE, given, is_empty, is_named, sync_name};
 use std::alloc::AllocError;
 use std::fs::{File, OpenOptions, TryLockError};
 use std::io::{ErrorKind, Seek, SeekFrom};
@@ -241,9 +241,9 @@ fn is_in_use(rt: &HostRuntime, file: &File, db: &str, others: &[&str]) -> io::Re
         }
     }
     // What lies beside the database stands beside the file that a link leads to.
-    let is_one = match fs::canonicalize(rt, db) {
-        Ok(real) => is_of_database(rt, file, real.as_str())?,
-        Err(_) => is_of_database(rt, file, db)?,
+    let is_one = match given(fs::canonicalize(rt, db))? {
+        Some(real) => is_of_database(rt, file, real.as_str())?,
+        None => is_of_database(rt, file, db)?,
     };
     Ok(is_one)
 }

@@ -2,7 +2,8 @@
 
 use crate::owner::{Owner, owner_of};
 use crate::sqlite_file::{has_frames, is_database, is_special};
-use crate::what_is_named::{is_there, place_of};
+use crate::what_is_named::{given, is_there, place_of};
+use std::alloc::AllocError;
 use std::io::ErrorKind;
 use std::{fs, io};
 
@@ -20,12 +21,13 @@ pub enum Found {
 }
 
 impl Found {
-    /// What is found under this name. Nothing is written.
-    pub fn under(rt: &HostRuntime, name: &str) -> Found {
-        match look(rt, name) {
-            Ok(found) => found,
-            Err(_) => Found::Database,
-        }
+    /// What is found under this name. Nothing is written. The error is that an allocation was refused: then nothing is to be
+    /// opened, since an opening makes a file that is not there.
+    pub fn under(rt: &HostRuntime, name: &str) -> Result<Found, AllocError> {
+        Ok(match given(look(rt, name))? {
+            Some(found) => found,
+            None => Found::Database,
+        })
     }
 }
 

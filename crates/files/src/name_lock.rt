@@ -9,7 +9,7 @@ use crate::fault::FileFault;
 use crate::new_file::{Made, is_first_page, make};
 use crate::part_file::remove_other;
 use crate::sqlite_file::{has_frames, is_special};
-use crate::what_is_named::{is_empty, is_file, is_named, private};
+use crate::what_is_named::{given, is_empty, is_file, is_named, private};
 use std::alloc::AllocError;
 use std::fs::{File, TryLockError};
 use std::io::ErrorKind;
@@ -101,7 +101,7 @@ pub fn keep_one_name(rt: &HostRuntime, name: &str) -> Result<(), AllocError> {
     if let Ok(metadata) = fs::metadata(rt, name)
         && metadata.is_file()
         && metadata.nlink() > 1
-        && let Ok(real) = fs::canonicalize(rt, name)
+        && let Some(real) = given(fs::canonicalize(rt, name))?
     {
         for suffix in [".new", ".part"] {
             let other = format!(in rt.alloc(); "{}{suffix}", real.as_str())?;

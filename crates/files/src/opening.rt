@@ -3,6 +3,7 @@
 use crate::fault::FileFault;
 use crate::name_lock::{NameLock, lock_shared};
 use crate::sqlite_file::{NO_DATABASE, has_frames, is_special};
+use crate::what_is_named::given;
 use std::alloc::AllocError;
 use std::fs::OpenOptions;
 use std::io::ErrorKind;
@@ -56,7 +57,7 @@ fn is_cut(rt: &HostRuntime, name: &str) -> bool {
 
 /// The name of the WAL file of a database file that is there, if it has none yet.
 pub fn missing_wal(rt: &HostRuntime, name: &str) -> Result<Option<String>, AllocError> {
-    let Ok(real) = fs::canonicalize(rt, name) else {
+    let Some(real) = given(fs::canonicalize(rt, name))? else {
         return Ok(None);
     };
     let wal = format!(in rt.alloc(); "{}-wal", real.as_str())?;

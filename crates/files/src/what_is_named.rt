@@ -22,6 +22,16 @@ pub fn private() -> OpenOptions {
     options
 }
 
+/// What a call over a file has given; none where it has failed. The error is that an allocation was refused, of which nothing
+/// follows for the file.
+pub(crate) fn given<T>(done: io::Result<T>) -> Result<Option<T>, AllocError> {
+    match done {
+        Ok(value) => Ok(Some(value)),
+        Err(cause) if cause.kind() == ErrorKind::OutOfMemory => Err(AllocError),
+        Err(_) => Ok(None),
+    }
+}
+
 /// Whether a name leads to a regular file.
 pub fn is_file(rt: &HostRuntime, name: &str) -> bool {
     match fs::metadata(rt, name) {
@@ -69,9 +79,9 @@ pub fn is_beside(rt: &HostRuntime, name: &str, db: &str) -> Result<bool, AllocEr
 
 /// The place of a database file, that of its target if it is a link.
 fn place_of_database(rt: &HostRuntime, db: &str) -> Result<Option<String>, AllocError> {
-    match fs::canonicalize(rt, db) {
-        Ok(real) => Ok(Some(format!(in rt.alloc(); "{}", real.as_str())?)),
-        Err(_) => place_of(rt, db),
+    match given(fs::canonicalize(rt, db))? {
+        Some(real) => Ok(Some(format!(in rt.alloc(); "{}", real.as_str())?)),
+        None => place_of(rt, db),
     }
 }
 
@@ -82,10 +92,10 @@ pub(crate) fn place_of(rt: &HostRuntime, name: &str) -> Result<Option<String>, A
         Some(parts) => parts,
         None => (".", name),
     };
-    match fs::canonicalize(rt, folder) {
-        Ok(real) if real.as_str() == "/" => Ok(Some(format!(in rt.alloc(); "/{leaf}")?)),
-        Ok(real) => Ok(Some(format!(in rt.alloc(); "{}/{leaf}", real.as_str())?)),
-        Err(_) => Ok(None),
+    match given(fs::canonicalize(rt, folder))? {
+        Some(real) if real.as_str() == "/" => Ok(Some(format!(in rt.alloc(); "/{leaf}")?)),
+        Some(real) => Ok(Some(format!(in rt.alloc(); "{}/{leaf}", real.as_str())?)),
+        None => Ok(None),
     }
 }
 

@@ -269,7 +269,7 @@ fn read<W: Write, E: Write>(
 
 /// Reports if a command that only reads a database has found none.
 pub fn note_if_absent<W: Write, E: Write>(rt: &HostRuntime, db: &str, out: &mut W, err: &mut E) {
-    if Found::under(rt, db) == Found::Nothing {
+    if let Ok(Found::Nothing) = Found::under(rt, db) {
         let _ = out.flush();
         note_absent(db, err);
     }

@@ -4,13 +4,14 @@ ghost use Rattle.std.specs.Prelude.{◌≡◌, IfOk};
 
 use crate::database::open::{closed, opened, opening};
 use crate::database::reading::{FOREIGN, Kept, kept_in};
-use crate::report::failure::{DONE, Failure, of_database, of_followed, over_argument, unusable};
+use crate::report::failure::{
+    DONE, Failure, of_database, of_followed, over_argument, unusable, write_asked,
+};
 use crate::report::wanted::has_pattern;
 use binlog::Follow;
 use clap::ArgMatches;
 use command_line::{parse_tables, word};
 use files::Found;
-use formats::{write_name, write_table};
 use messages::UNFINISHED;
 use replica::{Admission, AdmitFault, InFile, admit_file};
 use sqlite_disk::Unknown;
@@ -42,12 +43,12 @@ pub fn admit<W: Write>(rt: &HostRuntime, given: &ArgMatches<'_>, out: &mut W) ->
 
 /// Whether there is a database of this name that may follow such tables.
 fn check(rt: &HostRuntime, db: &str, tables: &Follow) -> Result<(), Failure> {
-    match Found::under(rt, db) {
+    match Found::under(rt, db)? {
         Found::Nothing => return Err(unusable(rt.alloc(), db, NO_DATABASE)),
         Found::Foreign => return Err(unusable(rt.alloc(), db, FOREIGN)),
         _ => {}
     }
-    if has_pattern(tables) && !matches!(kept_in(rt, db).0, Kept::None { .. }) {
+    if has_pattern(tables) && !matches!(kept_in(rt, db)?.0, Kept::None { .. }) {
         return Err(unusable(rt.alloc(), db, BY_NAME));
     }
     Ok(())
@@ -91,12 +92,7 @@ fn unadmitted(alloc: Global, db: &str, fault: AdmitFault) -> Failure {
 /// Prints the names of tables, each on a line.
 fn print<W: Write>(tables: &Follow, out: &mut W) -> io::Result<()> {
     for name in tables.names() {
-        if name.1.as_slice() == b"*".as_slice() {
-            write_name(&name.0, out)?;
-            out.write_all(b".*")?;
-        } else {
-            write_table(&name.0, &name.1, out)?;
-        }
+        write_asked(&name.0, &name.1, out)?;
         writeln!(out)?;
     }
     Ok(())

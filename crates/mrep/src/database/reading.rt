@@ -5,7 +5,7 @@
 
 use crate::commands::copy::{Target, fill};
 use crate::database::open::{listed, opened, opening, unopened_copy};
-use crate::report::failure::{Failure, over_file, unusable};
+use crate::report::failure::{Failure, MEMORY, over_file, unusable};
 use binlog::Follow;
 use files::{CopyPart, FileFault, FileNames, Found, Owner, make_part, owner_of};
 use gtid::GtidSet;
@@ -13,8 +13,7 @@ use messages::KEEPS_NONE;
 use replica::{InFile, Unopened, in_file};
 use sqlite::{Connection, Error, ErrorCode, File};
 use sqlite_disk::Unknown;
-use std::alloc::Global;
-use std::convert::Infallible;
+use std::alloc::{AllocError, Global};
 use store::{Listed, Lister, Visitor};
 
 /// How many processes may read copies of one database at a time.
@@ -34,7 +33,7 @@ pub fn list_in<L: Lister>(
     name: &str,
     lister: &mut L,
 ) -> Result<Result<(), L::Error>, Failure> {
-    match Found::under(rt, name) {
+    match Found::under(rt, name)? {
         Found::Nothing => Ok(list_nothing(rt.alloc(), lister)),
         Found::Database => list_database(rt, name, lister),
         Found::Unmerged => list_copy(rt, name, lister),
@@ -53,8 +52,9 @@ pub enum Kept {
     Unknown,
 }
 
-/// What the database of this name keeps, as it was before a command opens it, and its own filter where it keeps no rows.
-pub fn kept_in(rt: &HostRuntime, name: &str) -> (Kept, Option<Follow>) {
+/// What the database of this name keeps, as it was before a command opens it, and its own filter where it keeps no rows. The only
+/// failure is that memory ran out: why it cannot be opened its opening says.
+pub fn kept_in(rt: &HostRuntime, name: &str) -> Result<(Kept, Option<Follow>), Failure> {
     let mut keeping = Keeping {
         alloc: rt.alloc(),
         kept: Kept::Unknown,
@@ -63,9 +63,11 @@ pub fn kept_in(rt: &HostRuntime, name: &str) -> (Kept, Option<Follow>) {
     match list_in(rt, name, &mut keeping) {
         Ok(Ok(())) => {
             let Keeping { kept, own, .. } = keeping;
-            (kept, own)
+            Ok((kept, own))
         }
-        _ => (Kept::Unknown, None),
+        Ok(Err(AllocError)) => Err(Failure::Memory),
+        Err(failure) if failure.status() == MEMORY => Err(failure),
+        Err(_) => Ok((Kept::Unknown, None)),
     }
 }
 
@@ -74,16 +76,16 @@ pub fn kept_in(rt: &HostRuntime, name: &str) -> (Kept, Option<Follow>) {
 struct Keeping {
     alloc: Global,
     kept: Kept,
-    /// Its filter, where it keeps no rows, and memory has not run out.
+    /// Its filter, where it keeps no rows.
     own: Option<Follow>,
 }
 
 impl Visitor for Keeping {
-    type Error = Infallible;
+    type Error = AllocError;
 
     ghost row_gives = { λ _ _ _ _. Unit {0} };
 
-    fn row(&mut self, _row: &Listed<'_>) -> Result<(), Infallible> {
+    fn row(&mut self, _row: &Listed<'_>) -> Result<(), AllocError> {
         Ok(())
     }
 }
@@ -91,7 +93,7 @@ impl Visitor for Keeping {
 impl Lister for Keeping {
     ghost begun = { λ _ _ _ _ _. Unit {0} };
 
-    fn begin(&mut self, executed: &GtidSet, following: &Follow) -> Result<bool, Infallible> {
+    fn begin(&mut self, executed: &GtidSet, following: &Follow) -> Result<bool, AllocError> {
         let has_executed = executed.spans().next().is_some();
         self.kept = match following.keeps_rows() {
             false => Kept::None { has_executed },
@@ -99,10 +101,11 @@ impl Lister for Keeping {
             true if following.names().is_empty() && !has_executed => Kept::Unknown,
             true => Kept::Rows,
         };
-        if let Kept::None { .. } = self.kept
-            && let Ok(own) = Follow::new(self.alloc, following.names())
-        {
-            self.own = Some(own);
+        if let Kept::None { .. } = self.kept {
+            match Follow::new(self.alloc, following.names()) {
+                Ok(own) => self.own = Some(own),
+                Err(_) => return Err(AllocError),
+            }
         }
         Ok(false)
     }

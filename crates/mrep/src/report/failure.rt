@@ -15,7 +15,7 @@ use export::TablesFault;
 use feed::SkipError;
 use files::FileFault;
 use first_copy::CopyFault;
-use formats::{Quoted, Shown, write_named, write_table};
+use formats::{Quoted, Shown, write_name, write_named, write_table};
 use gtid::GtidFault;
 use messages::write_unloadable;
 use replica::{NoMemory, QualifiedName, Unloadable};
@@ -319,11 +319,20 @@ pub fn of_followed(alloc: Global, name: &str, table: &QualifiedName) -> Failure
 
 fn write_followed(name: &str, table: &QualifiedName, message: &mut Vec<u8>) -> io::Result<()> {
     write!(message, "mrep: {}: it follows ", Shown(name))?;
-    write_table(&table.schema, &table.table, message)?;
+    write_asked(&table.schema, &table.table, message)?;
     writeln!(
         message,
         " already: `mrep info` says which tables it follows"
     )
+}
+
+/// Writes a table, or all tables of a schema, as it is asked for.
+pub fn write_asked<W: Write>(schema: &[u8], table: &[u8], out: &mut W) -> io::Result<()> {
+    if table != b"*".as_slice() {
+        return write_table(schema, table, out);
+    }
+    write_name(schema, out)?;
+    out.write_all(b".*")
 }
 
 /// The tables of the database file of this name are damaged.

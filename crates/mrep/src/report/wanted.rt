@@ -105,7 +105,7 @@ impl<'g, 'a> Wanted<'g, 'a> {
     /// a new one. None is that of the database.
     pub fn only(&self, rt: &HostRuntime) -> Result<Option<Follow>, Failure> {
         let (kept, own) = if self.feed_only {
-            kept_in(rt, self.db)
+            kept_in(rt, self.db)?
         } else {
             (Kept::Unknown, None)
         };
@@ -134,7 +134,7 @@ impl<'g, 'a> Wanted<'g, 'a> {
     /// What the database keeps into which a first copy is loaded, if it is what is asked for, as [`kept_in`] says it. The set of a
     /// copy is executed before anything is reported, so an observer would refuse it too late.
     pub fn kept_for_copy(&self, rt: &HostRuntime) -> Result<(Kept, Option<Follow>), Failure> {
-        match kept_in(rt, self.db) {
+        match kept_in(rt, self.db)? {
             (Kept::None { .. }, _) if !self.feed_only => {
                 Err(unusable(rt.alloc(), self.db, KEEPS_NONE))
             }
