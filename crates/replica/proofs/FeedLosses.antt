@@ -3,7 +3,7 @@ use Rattle.replica.proofs.Names.{◌≡◌, inl, inr, Bool, true, false, List, [
 use Rattle.std.proofs.Common.{length-append}
 use Rattle.std.specs.Prelude.{◌||◌}
 use Rattle.std.specs.FinSet as set
-use Rattle.replica.specs.Noted.{opened, before, after}
+use Rattle.replica.specs.Noted.{opened, connected, before, after}
 use Rattle.replica.specs.Feed.{Line, open_line, change_line, commit_line, rollback_line, gtid_of, lines_after, lines_of, Reader, kept_changes, with_used, after_open, read_line, read_lines, FileLine, whole_line, cut_line, HaveNoOpen, unbroken, read_file, at_first, with_changes, MayBeMissing, IsHole, AreFed, all_lines}
 use Rattle.replica.proofs.Notices.{all_applied}
 use Rattle.replica.proofs.Push.{applies_push}
@@ -88,11 +88,13 @@ grouped_all names (before d ∷ after e answer ∷ ns) old new executed leads ha
 grouped_all names (before d ∷ opened ids ∷ ns) old new executed leads has = absurd leads
 grouped_all names (before d ∷ before e ∷ ns) old new executed leads has = absurd leads
 grouped_all names (before d ∷ stopped e ∷ ns) old new executed leads has = absurd leads
+grouped_all names (before d ∷ connected ∷ ns) old new executed leads has = absurd leads
 grouped_all names (before d ∷ ended end goes_on ∷ ns) old new executed leads has = absurd leads
 grouped_all names (stopped d ∷ ns) old new executed leads has = tt
 grouped_all names (after d (Ok true) ∷ ns) old new executed leads has = absurd leads
 grouped_all names (after d (Ok false) ∷ ns) old new executed leads has = grouped_all names ns old new executed leads.1 has
 grouped_all names (after d (Err reason) ∷ ns) old new executed leads has = grouped_end executed (gtid_of d) reason (lines_of ns) (grouped_all names ns old new executed leads.1 has) None tt
+grouped_all names (connected ∷ ns) old new executed leads has = grouped_all names ns old new executed leads has
 grouped_all names (ended end true ∷ ns) old new executed leads has = grouped_all names ns old new executed leads has
 grouped_all names (ended end false ∷ ns) old new executed leads has = subst (λ (l : List Notice). Grouped executed None (lines_of l)) (sym leads.0) tt
 
@@ -226,6 +228,7 @@ executed_more names (before d ∷ ns) new left (inl one) q has = ap (λ (ids : I
 executed_more names (before d ∷ ns) new left (inr more) q has = executed_more names ns new left more q has
 executed_more names (stopped d ∷ ns) new left more q has = executed_more names ns new left more q has
 executed_more names (after d answer ∷ ns) new left more q has = executed_more names ns new left more.1 q has
+executed_more names (connected ∷ ns) new left more q has = executed_more names ns new left more q has
 executed_more names (ended end goes_on ∷ ns) new left more q has = executed_more names ns new left more q has
 
 executed_left : (names : Names) (ns : List Notice) (new left : Content) → IsLeftOfNoted names ns new left → (q : Id) → set.contains new.executed q ≡ true → set.contains left.executed q ≡ true
@@ -268,6 +271,7 @@ module _ (names : Names) (old new left : Content) (lines lost : List Line) (r : 
   by_notices (before d ∷ ns) leads begins fails left_is are may = absurd begins
   by_notices (stopped d ∷ ns) leads begins fails left_is are may = absurd begins
   by_notices (after d answer ∷ ns) leads begins fails left_is are may = absurd begins
+  by_notices (connected ∷ ns) leads begins fails left_is are may = absurd begins
   by_notices (ended end goes_on ∷ ns) leads begins fails left_is are may = absurd begins
 
 -- ---- Lines of a file.
@@ -334,6 +338,7 @@ noted_open ids (opened others ∷ ns) begins = tt
 noted_open ids (before d ∷ ns) begins = absurd begins
 noted_open ids (stopped d ∷ ns) begins = absurd begins
 noted_open ids (after d answer ∷ ns) begins = absurd begins
+noted_open ids (connected ∷ ns) begins = absurd begins
 noted_open ids (ended end goes_on ∷ ns) begins = absurd begins
 
 -- what is read of a run, whatever was cut before it

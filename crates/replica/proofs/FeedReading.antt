@@ -1,7 +1,7 @@
 -- A reader of all lines of a change feed uses what was applied.
 use Rattle.replica.proofs.Names.{◌≡◌, ◌⊎◌, inl, inr, Bool, true, false, List, [], ◌∷◌, ◌++◌, map, length, Option, Some, None, Result, Ok, Err, refl, sym, ap, ap₂, subst, ◌∙◌, append_assoc, append-nil, arith, if◌then◌else◌, eq_by_cmp, false≢true, false_from_ne_true, or_cases, or_left, or_right, Id, Ids, id_cmp, id_cmp_total, Names, ChangeValue, DeliveryValue, Content, HasOutcome, done, StoreFault, Reason, Database, Memory, AppliesAll, Notice, stopped, ended, applied_in, IsMadeBy, LeadsBy, fails_by, EndsAtFailure, IsOneMoreNoted, IsLeftOfNoted}
 use Rattle.std.specs.FinSet as set
-use Rattle.replica.specs.Noted.{opened, before, after, IsDatabaseFailure}
+use Rattle.replica.specs.Noted.{opened, connected, before, after, IsDatabaseFailure}
 use Rattle.replica.specs.Feed.{Line, open_line, change_line, commit_line, rollback_line, gtid_of, lines_after, lines_of, Reader, kept_changes, with_used, after_open, read_line, read_lines, has_change, with_changes}
 use Rattle.replica.proofs.Notices.{unchanged, unapplied, lets_none_applied, none_left_more}
 use Rattle.replica.proofs.Transactions.{itself, still}
@@ -249,6 +249,7 @@ reads_all names (before d ∷ after e answer ∷ ns) old new left leads fails is
 reads_all names (before d ∷ opened ids ∷ ns) old new left leads fails is used taken within = absurd leads
 reads_all names (before d ∷ before e ∷ ns) old new left leads fails is used taken within = absurd leads
 reads_all names (before d ∷ stopped e ∷ ns) old new left leads fails is used taken within = absurd leads
+reads_all names (before d ∷ connected ∷ ns) old new left leads fails is used taken within = absurd leads
 reads_all names (before d ∷ ended end goes_on ∷ ns) old new left leads fails is used taken within = absurd leads
 reads_all names (stopped d ∷ ns) old new left leads fails (inl same) used taken within =
     nothing names old left used taken (same ∙ unapplied names old ns new leads.2 (lets_none_applied names old ns new leads.2 leads.1)) within
@@ -258,6 +259,7 @@ reads_all names (after d (Ok false) ∷ ns) old new left leads fails (inl same) 
 reads_all names (after d (Ok false) ∷ ns) old new left leads fails (inr more) used taken within = reads_all names ns old new left leads.1 fails.1 (inr more.1) used taken within
 reads_all names (after d (Err reason) ∷ ns) old new left leads fails is used taken within =
     known_one names ns old new left used taken within (λ mid u t l i w. reads_all names ns mid new left l fails.1 i u t w) d reason leads.1 fails.0 is
+reads_all names (connected ∷ ns) old new left leads fails is used taken within = reads_all names ns old new left leads fails is used taken within
 reads_all names (ended end true ∷ ns) old new left leads fails is used taken within = reads_all names ns old new left leads fails is used taken within
 reads_all names (ended end false ∷ ns) old new left leads fails is used taken within =
     subst (λ (l : List Notice). Reads names old left (read_lines (begun used taken) (lines_of l)) taken) (sym leads.0)

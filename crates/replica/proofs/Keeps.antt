@@ -1,11 +1,14 @@
 -- What a call keeps that may change a store: of one that does nothing, and of one after another.
-use Rattle.replica.proofs.Names.{◌≡◌, ◌≢◌, ◌∙◌, List, [], ◌∷◌, ◌++◌, Bool, false, refl, sym, subst, Ghosts, HasCleanDisk, Ids, Content, Store, HoldsAs, database, Ended, Account, HasNotices, WasMissing, IsLedSinceOpening, ended, KeepsStore, KeepsObserved, KeepsSinceOpening}
+use Rattle.replica.proofs.Names.{◌≡◌, ◌≢◌, ◌∙◌, Option, List, [], ◌∷◌, ◌++◌, Bool, false, refl, sym, subst, Ghosts, HasCleanDisk, Ids, Content, Store, HoldsAs, database, Ended, Account, HasNotices, WasMissing, IsLedSinceOpening, ended, KeepsStore, KeepsObserved, KeepsSinceOpening}
 use Rattle.std.specs.Prelude.{not}
 use Rattle.store.specs.Store.{IsBroken, names_of}
-use Rattle.replica.specs.Noted.{HasNoNotice, Excludes, opened}
+use Rattle.replica.specs.Noted.{HasNoNotice, HasGrown, HasBeenNoted, Notice, Excludes, opened, connected}
 use Rattle.replica.proofs.ObserverEnds.{still}
-use Rattle.replica.proofs.Notices.{led_nowhere, led_through, led_to_end, since_from, since_through, no_notice}
+use Rattle.replica.proofs.Notices.{noted_none, noted_more, led_nowhere, led_to_source, led_through, led_to_end, since_from, since_through, no_notice}
 use Rattle.replica.proofs.WaitSets.{missing_later}
+
+pub grown_more : (first middle last : Account) → HasGrown first middle → HasGrown middle last → HasGrown first last
+grown_more first middle last a b = (a.0 ++ b.0, noted_more first.noted middle.noted last.noted a.0 b.0 a.1 b.1)
 
 module _ {S : Type 0} (g : Ghosts S) where
   pub store_same : {store : Store S g} → KeepsStore g store store
@@ -26,7 +29,18 @@ module _ {S : Type 0} (g : Ghosts S) where
     store = store_same;
     stays = noticed.stays;
     heeds = λ broken content holds on. refl;
+    grows = ([], subst (λ (n : Option (List Notice)). HasBeenNoted was.noted n []) (sym noticed.noted) (noted_none was.noted));
     notes = λ clean broken content holds. led_nowhere g broken content store was is holds noticed;
+  }
+
+  -- where that the source was reached is reported
+  pub keeps_connected : {store : Store S g} {was is : Account} → HasNotices was is (connected ∷ []) → KeepsObserved g store store was is []
+  keeps_connected {store} {was} {is} noticed = record {
+    store = store_same;
+    stays = noticed.stays;
+    heeds = λ broken content holds on. refl;
+    grows = (connected ∷ [], noticed.noted);
+    notes = λ clean broken content holds. led_to_source g broken content store was is holds noticed;
   }
 
   -- where nothing is done
@@ -39,6 +53,7 @@ module _ {S : Type 0} (g : Ghosts S) where
     store = store_same;
     stays = noticed.stays;
     heeds = λ broken content holds on. refl;
+    grows = (ended end goes_on ∷ [], noticed.noted);
     notes = λ clean broken content holds. led_to_end g broken content store end goes_on was is holds noticed asks;
   }
 
@@ -47,6 +62,7 @@ module _ {S : Type 0} (g : Ghosts S) where
     store = store_then a.store b.store;
     stays = λ on. b.stays (a.stays on);
     heeds = λ broken content holds on. still (HoldsAs g broken content) first middle last (a.heeds broken content holds on) holds (λ h. b.heeds broken content h (a.stays on));
+    grows = grown_more t0 t1 t2 a.grows b.grows;
     notes = λ clean broken content holds.
         led_through g broken content first middle last t0 t1 t2 [] ends a.store.following (λ some. absurd (some refl)) (a.notes (b.store.clean clean) broken content holds) (λ is now held. b.notes clean is now held);
   }

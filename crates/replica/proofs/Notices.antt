@@ -10,7 +10,7 @@ use Rattle.sqlite.specs.Held.{state}
 use Rattle.replica.proofs.Transactions.{all_one}
 use Rattle.replica.proofs.MissingSets.{none_left, none_removed}
 use Rattle.replica.specs.Conn.{StoreState}
-use Rattle.replica.specs.Noted.{opened, before, after, HasBeenNoted, asked_about, ends_in, has_stop, has_last, LetsNone, Excludes, IsExcluded, HasNoNotice, IsNotedOf, IsLedTo, missing_after, AreMissed, NextFails}
+use Rattle.replica.specs.Noted.{opened, connected, before, after, HasBeenNoted, asked_about, ends_in, has_stop, has_last, LetsNone, Excludes, IsExcluded, HasNoNotice, IsNotedOf, IsLedTo, missing_after, AreMissed, NextFails}
 
 pub noted_none : (noted : Option (List Notice)) → HasBeenNoted noted noted []
 noted_none None = tt
@@ -31,6 +31,7 @@ missing_more ids (after d (Ok true) ∷ xs) ys = missing_more (set.remove ids (d
 missing_more ids (after d (Ok false) ∷ xs) ys = missing_more ids xs ys
 missing_more ids (after d (Err reason) ∷ xs) ys = missing_more ids xs ys
 missing_more ids (opened executed ∷ xs) ys = missing_more (set.difference ids executed) xs ys
+missing_more ids (connected ∷ xs) ys = missing_more ids xs ys
 missing_more ids (ended end goes_on ∷ xs) ys = missing_more ids xs ys
 
 -- once nothing is missing nothing is later
@@ -42,6 +43,7 @@ none_missing ids (after d (Ok true) ∷ ns) none = none_missing (set.remove ids 
 none_missing ids (after d (Ok false) ∷ ns) none = none_missing ids ns none
 none_missing ids (after d (Err reason) ∷ ns) none = none_missing ids ns none
 none_missing ids (opened executed ∷ ns) none = none_missing (set.difference ids executed) ns (none_left ids executed none)
+none_missing ids (connected ∷ ns) none = none_missing ids ns none
 none_missing ids (ended end goes_on ∷ ns) none = none_missing ids ns none
 
 pub none_later : (was is : Option Ids) (notices : List Notice) → StillWaits was notices is → waits_for_none was ≡ true → waits_for_none is ≡ true
@@ -72,6 +74,7 @@ all_missed ids (after d (Ok true) ∷ xs) ys a b = all_missed (set.remove ids (d
 all_missed ids (after d (Ok false) ∷ xs) ys a b = all_missed ids xs ys a b
 all_missed ids (after d (Err reason) ∷ xs) ys a b = all_missed ids xs ys a b
 all_missed ids (opened executed ∷ xs) ys a b = all_missed (set.difference ids executed) xs ys a b
+all_missed ids (connected ∷ xs) ys a b = all_missed ids xs ys a b
 all_missed ids (ended end goes_on ∷ xs) ys a b = all_missed ids xs ys a b
 
 pub missed_more : (first middle last : Option Ids) (xs ys : List Notice) → StillWaits first xs middle → StillWaits middle ys last → WereMissed first xs middle → WereMissed middle ys last → WereMissed first (xs ++ ys) last
@@ -103,6 +106,7 @@ none_more (before d ∷ xs) ys a b = absurd a
 none_more (stopped d ∷ xs) ys a b = none_more xs ys a b
 none_more (after d answer ∷ xs) ys a b = none_more xs ys a b
 none_more (opened ids ∷ xs) ys a b = none_more xs ys a b
+none_more (connected ∷ xs) ys a b = none_more xs ys a b
 none_more (ended end goes_on ∷ xs) ys a b = none_more xs ys a b
 
 pub stop_more : (xs ys : List Notice) → has_stop (xs ++ ys) ≡ true → (has_stop xs ≡ true) ⊎ (has_stop ys ≡ true)
@@ -111,11 +115,13 @@ stop_more (stopped d ∷ xs) ys h = inl refl
 stop_more (before d ∷ xs) ys h = stop_more xs ys h
 stop_more (after d answer ∷ xs) ys h = stop_more xs ys h
 stop_more (opened ids ∷ xs) ys h = stop_more xs ys h
+stop_more (connected ∷ xs) ys h = stop_more xs ys h
 stop_more (ended end goes_on ∷ xs) ys h = stop_more xs ys h
 
 pub last_more : (xs ys : List Notice) → has_last (xs ++ ys) ≡ true → (has_last xs ≡ true) ⊎ (has_last ys ≡ true)
 last_more [] ys h = inr h
 last_more (ended end false ∷ xs) ys h = inl refl
+last_more (connected ∷ xs) ys h = last_more xs ys h
 last_more (ended end true ∷ xs) ys h = last_more xs ys h
 last_more (stopped d ∷ xs) ys h = last_more xs ys h
 last_more (before d ∷ xs) ys h = last_more xs ys h
@@ -125,6 +131,7 @@ last_more (opened ids ∷ xs) ys h = last_more xs ys h
 -- without an end there is no last one
 no_last : (xs : List Notice) → ends_in xs ≡ [] → has_last xs ≡ false
 no_last [] h = refl
+no_last (connected ∷ xs) h = no_last xs h
 no_last (ended end goes_on ∷ xs) h = absurd (cc)
 no_last (stopped d ∷ xs) h = no_last xs h
 no_last (before d ∷ xs) h = no_last xs h
@@ -138,12 +145,14 @@ leads_more names old (before d ∷ after e answer ∷ xs) mid ys new a b none la
 leads_more names old (before d ∷ opened ids ∷ xs) mid ys new a b none last = absurd a
 leads_more names old (before d ∷ before e ∷ xs) mid ys new a b none last = absurd a
 leads_more names old (before d ∷ stopped e ∷ xs) mid ys new a b none last = absurd a
+leads_more names old (before d ∷ connected ∷ xs) mid ys new a b none last = absurd a
 leads_more names old (before d ∷ ended end goes_on ∷ xs) mid ys new a b none last = absurd a
 leads_more names old (stopped d ∷ xs) mid ys new a b none last = (a.0, none_more xs ys a.1 (none refl), leads_more names old xs mid ys new a.2 b (λ h. none refl) last)
 leads_more names old (after d (Ok true) ∷ xs) mid ys new a b none last = absurd a
 leads_more names old (after d (Ok false) ∷ xs) mid ys new a b none last = (a.0, leads_more names old xs mid ys new a.1 b none last)
 leads_more names old (after d (Err reason) ∷ xs) mid ys new a b none last = (a.0, leads_more names old xs mid ys new a.1 b none last)
 leads_more names old (opened ids ∷ xs) mid ys new a b none last = (a.0, leads_more names old xs mid ys new a.1 b none last)
+leads_more names old (connected ∷ xs) mid ys new a b none last = leads_more names old xs mid ys new a b none last
 leads_more names old (ended end true ∷ xs) mid ys new a b none last = leads_more names old xs mid ys new a b none last
 leads_more names old (ended end false ∷ xs) mid ys new a b none last =
     let alone : ys ≡ [] = last refl in
@@ -159,6 +168,7 @@ applied_more (stopped d ∷ xs) ys = applied_more xs ys
 applied_more (after d (Ok true) ∷ xs) ys = ap (λ (l : List DeliveryValue). d ∷ l) (applied_more xs ys)
 applied_more (after d (Ok false) ∷ xs) ys = applied_more xs ys
 applied_more (after d (Err reason) ∷ xs) ys = applied_more xs ys
+applied_more (connected ∷ xs) ys = applied_more xs ys
 applied_more (ended end goes_on ∷ xs) ys = applied_more xs ys
 
 none_applied : (xs ys : List Notice) → applied_in xs ≡ [] → applied_in ys ≡ [] → applied_in (xs ++ ys) ≡ []
@@ -174,6 +184,7 @@ failure_more (after d answer ∷ xs) ys f = elim (or_cases (fails_by answer) (ha
   | inl here ↦ inl (or_left _ _ here)
   | inr later ↦ elim (failure_more xs ys later) [ inl one ↦ inl (or_right _ _ one) | inr two ↦ inr two ]
 ]
+failure_more (connected ∷ xs) ys f = failure_more xs ys f
 failure_more (ended end goes_on ∷ xs) ys f = failure_more xs ys f
 
 fails_more : (xs ys : List Notice) → EndsAtFailure xs → EndsAtFailure ys → (has_failure xs ≡ true → applied_in ys ≡ []) → EndsAtFailure (xs ++ ys)
@@ -185,6 +196,7 @@ fails_more (after d answer ∷ xs) ys a b last = (
   λ f. none_applied xs ys (a.0 f) (last (or_left _ _ f)),
   fails_more xs ys a.1 b (λ f. last (or_right _ _ f)),
 )
+fails_more (connected ∷ xs) ys a b last = fails_more xs ys a b last
 fails_more (ended end goes_on ∷ xs) ys a b last = fails_more xs ys a b last
 
 -- one transaction more, after the first of what was reported or before the last of it
@@ -194,6 +206,7 @@ one_later names new left (opened ids ∷ xs) ys whole m = one_later names new le
 one_later names new left (before d ∷ xs) ys whole m = inr (one_later names new left xs ys whole m)
 one_later names new left (stopped d ∷ xs) ys whole m = one_later names new left xs ys whole m
 one_later names new left (after d answer ∷ xs) ys whole m = let parts = or_parts _ _ whole in (parts.0, one_later names new left xs ys parts.1 m)
+one_later names new left (connected ∷ xs) ys whole m = one_later names new left xs ys whole m
 one_later names new left (ended end goes_on ∷ xs) ys whole m = one_later names new left xs ys whole m
 
 next_more : (xs ys : List Notice) → NextFails xs → NextFails (xs ++ ys)
@@ -202,6 +215,7 @@ next_more (opened ids ∷ xs) ys f = absurd f
 next_more (before d ∷ xs) ys f = absurd f
 next_more (stopped d ∷ xs) ys f = absurd f
 next_more (after d answer ∷ xs) ys f = f
+next_more (connected ∷ xs) ys f = absurd f
 next_more (ended end goes_on ∷ xs) ys f = absurd f
 
 one_earlier : (names : Names) (new left : Content) (xs ys : List Notice) → IsOneMoreNoted names new xs left → IsOneMoreNoted names new (xs ++ ys) left
@@ -211,6 +225,7 @@ one_earlier names new left (before d ∷ xs) ys (inl m) = inl (next_more xs ys m
 one_earlier names new left (before d ∷ xs) ys (inr m) = inr (one_earlier names new left xs ys m)
 one_earlier names new left (stopped d ∷ xs) ys m = one_earlier names new left xs ys m
 one_earlier names new left (after d answer ∷ xs) ys m = (m.0, one_earlier names new left xs ys m.1)
+one_earlier names new left (connected ∷ xs) ys m = one_earlier names new left xs ys m
 one_earlier names new left (ended end goes_on ∷ xs) ys m = one_earlier names new left xs ys m
 
 pub ends_more : (xs ys : List Notice) → ends_in (xs ++ ys) ≡ ends_in xs ++ ends_in ys
@@ -219,6 +234,7 @@ ends_more (opened ids ∷ xs) ys = ends_more xs ys
 ends_more (before d ∷ xs) ys = ends_more xs ys
 ends_more (stopped d ∷ xs) ys = ends_more xs ys
 ends_more (after d answer ∷ xs) ys = ends_more xs ys
+ends_more (connected ∷ xs) ys = ends_more xs ys
 ends_more (ended end goes_on ∷ xs) ys = ap (λ (l : List Ended). end ∷ l) (ends_more xs ys)
 
 -- a transaction that is refused, or in which the store fails, changes nothing
@@ -238,12 +254,14 @@ all_applied names old (before d ∷ after e (Err reason) ∷ ns) new l =
 all_applied names old (before d ∷ opened ids ∷ ns) new l = absurd l
 all_applied names old (before d ∷ before e ∷ ns) new l = absurd l
 all_applied names old (before d ∷ stopped e ∷ ns) new l = absurd l
+all_applied names old (before d ∷ connected ∷ ns) new l = absurd l
 all_applied names old (before d ∷ ended end goes_on ∷ ns) new l = absurd l
 all_applied names old (stopped d ∷ ns) new l = all_applied names old ns new l.2
 all_applied names old (after d (Ok true) ∷ ns) new l = absurd l
 all_applied names old (after d (Ok false) ∷ ns) new l = all_applied names old ns new l.1
 all_applied names old (after d (Err reason) ∷ ns) new l = all_applied names old ns new l.1
 all_applied names old (opened ids ∷ ns) new l = all_applied names old ns new l.1
+all_applied names old (connected ∷ ns) new l = all_applied names old ns new l
 all_applied names old (ended end true ∷ ns) new l = all_applied names old ns new l
 all_applied names old (ended end false ∷ ns) new l = subst (λ (x : List Notice). AppliesAll names old (applied_in x) (length (applied_in x)) new) (sym l.0) (refl, l.1)
 
@@ -318,6 +336,7 @@ begins_more executed (opened ids ∷ xs) ys b = b
 begins_more executed (before d ∷ xs) ys b = absurd b
 begins_more executed (stopped d ∷ xs) ys b = absurd b
 begins_more executed (after d answer ∷ xs) ys b = absurd b
+begins_more executed (connected ∷ xs) ys b = absurd b
 begins_more executed (ended end goes_on ∷ xs) ys b = absurd b
 
 abbrev since_on : (names : Names) (old mid new : Content) (t0 t1 t2 : Account) (ends more : List Ended) → (ends ≢ [] → t1.has_stopped ≡ false) → (a : IsNotedSinceOpening names old mid t0 t1 ends) → (b : IsNotedOf names mid new t1 t2 more)
@@ -339,6 +358,7 @@ lets_none_applied names old (stopped d ∷ ns) new leads lets = lets_none_applie
 lets_none_applied names old (after d (Ok true) ∷ ns) new leads lets = absurd leads
 lets_none_applied names old (after d (Ok false) ∷ ns) new leads lets = lets_none_applied names old ns new leads.1 lets
 lets_none_applied names old (after d (Err reason) ∷ ns) new leads lets = lets_none_applied names old ns new leads.1 lets
+lets_none_applied names old (connected ∷ ns) new leads lets = lets_none_applied names old ns new leads lets
 lets_none_applied names old (ended end true ∷ ns) new leads lets = lets_none_applied names old ns new leads lets
 lets_none_applied names old (ended end false ∷ ns) new leads lets = ap applied_in leads.0
 
@@ -349,6 +369,7 @@ none_left_more names new left (opened ids ∷ ns) lets more = none_left_more nam
 none_left_more names new left (before d ∷ ns) lets more = absurd lets
 none_left_more names new left (stopped d ∷ ns) lets more = none_left_more names new left ns lets more
 none_left_more names new left (after d answer ∷ ns) lets more = none_left_more names new left ns lets more.1
+none_left_more names new left (connected ∷ ns) lets more = none_left_more names new left ns lets more
 none_left_more names new left (ended end goes_on ∷ ns) lets more = none_left_more names new left ns lets more
 
 -- the same where nothing but the opening was reported
@@ -508,6 +529,26 @@ module _ {S : Type 0} (g : Ghosts S) where
         breaks = λ f. elim (failure_more xs ys f) [ inl one ↦ (b.still (a.breaks one)).1 | inr two ↦ b.breaks two ];
         leaves = λ fresh now. left_then first.following middle last xs ys a.new b.new a.now_broken b.now_broken (a.leaves fresh) b.still (λ whole. b.leaves whole now) b.noted_of.leads a.breaks;
       }
+
+  -- that the source was reached
+  pub led_to_source : (broken : Bool) (old : Content) (store : Store S g) (was is : Account) → HoldsAs g broken old store → HasNotices was is (connected ∷ []) → IsLedOver g store store broken old was is []
+  led_to_source broken old store was is holds noticed = quiet broken old store was is [] (record {
+    now_broken = broken;
+    new = old;
+    holds = holds;
+    noted_of = record {
+      notices = connected ∷ [];
+      noted = noticed.noted;
+      waits = noticed.waits;
+      missed = missed_same was.waits is.waits connected (λ ids. tt) noticed.waits;
+      leads = refl;
+      ends_are = refl;
+      stays = noticed.stays;
+      stops = λ bad. absurd (false≢true bad);
+      last = λ bad. absurd (false≢true bad);
+      lets_none = λ on. tt;
+    };
+  }) refl refl refl tt
 
   -- the end of a connection
   pub led_to_end : (broken : Bool) (old : Content) (store : Store S g) (end : Ended) (goes_on : Bool) (was is : Account) → HoldsAs g broken old store → HasNotices was is (ended end goes_on ∷ []) → goes_on ≡ not is.has_stopped

@@ -3,7 +3,7 @@ use Rattle.replica.proofs.Names.{◌≡◌, ◌⊎◌, ◌+◌, ◌∷◌, ◌++
 use Rattle.std.specs.FinSet as set
 use Rattle.replica.specs.Missing.{IsLeftOf}
 use Rattle.replica.proofs.Transactions.{still}
-use Rattle.replica.specs.Noted.{opened, before, after, HasBeenNoted, missing_after, AreMissed, IsNotedOf, EndsWithLast, HasReached}
+use Rattle.replica.specs.Noted.{opened, connected, before, after, HasBeenNoted, missing_after, AreMissed, IsNotedOf, EndsWithLast, HasReached}
 use Rattle.replica.proofs.MissingSets.{removed, again, removed_within, either_first, without_one, without_absent, none_left, none_removed, within, not_both}
 use Rattle.replica.proofs.Notices.{unchanged}
 
@@ -23,6 +23,7 @@ kept_missing names old (before d ∷ after e (Err reason) ∷ ns) new w l =
 kept_missing names old (before d ∷ opened ids ∷ ns) new w l = absurd l
 kept_missing names old (before d ∷ before e ∷ ns) new w l = absurd l
 kept_missing names old (before d ∷ stopped e ∷ ns) new w l = absurd l
+kept_missing names old (before d ∷ connected ∷ ns) new w l = absurd l
 kept_missing names old (before d ∷ ended end goes_on ∷ ns) new w l = absurd l
 kept_missing names old (stopped d ∷ ns) new w l = kept_missing names old ns new w l.2
 kept_missing names old (after d (Ok true) ∷ ns) new w l = absurd l
@@ -30,6 +31,7 @@ kept_missing names old (after d (Ok false) ∷ ns) new w l = kept_missing names 
 kept_missing names old (after d (Err reason) ∷ ns) new w l = kept_missing names old ns new w l.1
 kept_missing names old (opened ids ∷ ns) new w l =
     ap (λ (s : Ids). missing_after s ns) (ap (λ (s : Ids). set.difference (set.difference w old.executed) s) l.0 ∙ again w old.executed) ∙ kept_missing names old ns new w l.1
+kept_missing names old (connected ∷ ns) new w l = kept_missing names old ns new w l
 kept_missing names old (ended end true ∷ ns) new w l = kept_missing names old ns new w l
 kept_missing names old (ended end false ∷ ns) new w l = ap (λ (x : List Notice). missing_after (set.difference w old.executed) x) l.0 ∙ ap (λ (c : Content). set.difference w c.executed) (sym l.1)
 
@@ -51,6 +53,7 @@ set_out w s (stopped d ∷ ns) = set_out w s ns
 set_out w s (after d (Ok true) ∷ ns) = ap (λ (x : Ids). missing_after x ns) (removed_within w s (d.source, d.number)) ∙ set_out (set.remove w (d.source, d.number)) s ns
 set_out w s (after d (Ok false) ∷ ns) = set_out w s ns
 set_out w s (after d (Err reason) ∷ ns) = set_out w s ns
+set_out w s (connected ∷ ns) = set_out w s ns
 set_out w s (ended end goes_on ∷ ns) = set_out w s ns
 
 all_within : (names : Names) (old : Content) (notices : List Notice) (new : Content) (wanted : Ids) (is : Option Ids) → LeadsBy names old notices new
@@ -75,6 +78,7 @@ missed_at ids (stopped e ∷ xs) d ys a = missed_at ids xs d ys a
 missed_at ids (after e (Ok true) ∷ xs) d ys a = missed_at (set.remove ids (e.source, e.number)) xs d ys a
 missed_at ids (after e (Ok false) ∷ xs) d ys a = missed_at ids xs d ys a
 missed_at ids (after e (Err reason) ∷ xs) d ys a = missed_at ids xs d ys a
+missed_at ids (connected ∷ xs) d ys a = missed_at ids xs d ys a
 missed_at ids (ended end goes_on ∷ xs) d ys a = missed_at ids xs d ys a
 
 outside : (w s : Ids) → set.is_subset (set.difference w s) set.empty ≡ false → set.is_subset w s ≡ false
@@ -105,6 +109,7 @@ reached_by names old (before d ∷ after e (Err reason) ∷ ns) new w l a =
 reached_by names old (before d ∷ opened ids ∷ ns) new w l a = absurd l
 reached_by names old (before d ∷ before e ∷ ns) new w l a = absurd l
 reached_by names old (before d ∷ stopped e ∷ ns) new w l a = absurd l
+reached_by names old (before d ∷ connected ∷ ns) new w l a = absurd l
 reached_by names old (before d ∷ ended end goes_on ∷ ns) new w l a = absurd l
 reached_by names old (stopped d ∷ ns) new w l a = reached_by names old ns new w l.2 a
 reached_by names old (after d (Ok true) ∷ ns) new w l a = absurd l
@@ -112,6 +117,7 @@ reached_by names old (after d (Ok false) ∷ ns) new w l a = reached_by names ol
 reached_by names old (after d (Err reason) ∷ ns) new w l a = reached_by names old ns new w l.1 a
 reached_by names old (opened ids ∷ ns) new w l a =
     reached_by names old ns new w l.1 (subst (λ (s : Ids). AreMissed s ns) (ap (λ (s : Ids). set.difference (set.difference w old.executed) s) l.0 ∙ again w old.executed) a)
+reached_by names old (connected ∷ ns) new w l a = reached_by names old ns new w l a
 reached_by names old (ended end true ∷ ns) new w l a = reached_by names old ns new w l a
 reached_by names old (ended end false ∷ ns) new w l a = inl l.1
 
@@ -121,6 +127,7 @@ since_opened names old new [] wanted is b l m none = absurd b
 since_opened names old new (before d ∷ ns) wanted is b l m none = absurd b
 since_opened names old new (stopped d ∷ ns) wanted is b l m none = absurd b
 since_opened names old new (after d answer ∷ ns) wanted is b l m none = absurd b
+since_opened names old new (connected ∷ ns) wanted is b l m none = absurd b
 since_opened names old new (ended end goes_on ∷ ns) wanted is b l m none = absurd b
 since_opened names old new (opened ids ∷ ns) wanted None b l m none = absurd (false≢true none)
 since_opened names old new (opened ids ∷ ns) wanted (Some left) b l m none = reached_by names old ns new wanted l.1 (subst (λ (s : Ids). AreMissed (set.difference wanted s) ns) b m)
@@ -152,6 +159,10 @@ pub left_opened : (was : Option Ids) (taken : Ids) (is : Option Ids) → IsLeftO
 left_opened was taken None l = l
 left_opened None taken (Some is) l = absurd l
 left_opened (Some was) taken (Some is) l = l
+
+pub left_connected : (was : Option Ids) → StillWaits was (connected ∷ []) was
+left_connected None = refl
+left_connected (Some ids) = refl
 
 pub left_none : (was : Option Ids) (taken : Ids) (is : Option Ids) → IsLeftOf was taken is → is_over was ≡ true → is_over is ≡ true
 left_none was taken None l over = refl
@@ -195,6 +206,7 @@ one_more_has names new (before d ∷ notices) left (inr more) = one_more_has nam
 one_more_has names new (after d answer ∷ notices) left more = one_more_has names new notices left more.1
 one_more_has names new (opened ids ∷ notices) left more = one_more_has names new notices left more
 one_more_has names new (stopped d ∷ notices) left more = one_more_has names new notices left more
+one_more_has names new (connected ∷ notices) left more = one_more_has names new notices left more
 one_more_has names new (ended end goes_on ∷ notices) left more = one_more_has names new notices left more
 
 pub left_has : (names : Names) (notices : List Notice) (new left : Content) → IsLeftOfNoted names notices new left → set.is_subset new.executed left.executed ≡ true

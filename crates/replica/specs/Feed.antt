@@ -9,7 +9,7 @@ use Rattle.gather.specs.Transaction.{ChangeValue, DeliveryValue}
 use Rattle.store.specs.State.{Content}
 use Rattle.replica.specs.declared.session.end.Reason.{Reason}
 use Rattle.replica.specs.declared.session.end.Reason.TheVariants.{Database}
-use Rattle.replica.specs.Noted.{Notice, opened, before, stopped, after, ended, LeadsBy, BeginsWith, fails_by, EndsAtFailure, IsLeftOfNoted}
+use Rattle.replica.specs.Noted.{Notice, opened, connected, before, stopped, after, ended, LeadsBy, BeginsWith, fails_by, EndsAtFailure, IsLeftOfNoted}
 
 -- ---- What is written.
 
@@ -34,6 +34,7 @@ lines_after id (Err _) = rollback_line id ∷ []
 abbrev pub lines_of : List Notice → List Line
 lines_of [] = []
 lines_of (opened ids ∷ notices) = open_line ids ∷ lines_of notices
+lines_of (connected ∷ notices) = lines_of notices
 lines_of (before d ∷ notices) = map (λ c. change_line (gtid_of d) c) d.changes ++ lines_of notices
 lines_of (stopped d ∷ notices) = []
 lines_of (after d answer ∷ notices) = lines_after (gtid_of d) answer ++ (if fails_by answer then [] else lines_of notices)

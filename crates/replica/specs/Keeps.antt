@@ -6,7 +6,7 @@ use Rattle.store.specs.State.{Content}
 use Rattle.store.specs.declared.store.Store.{Store}
 use Rattle.store.specs.Store.{HoldsAs, IsBroken, database, names_of}
 use Rattle.replica.specs.declared.session.end.Ended.{Ended}
-use Rattle.replica.specs.Noted.{Account, IsLedOver, IsLedSinceOpening}
+use Rattle.replica.specs.Noted.{Account, HasGrown, IsLedOver, IsLedSinceOpening}
 
 module _ {S : Type 0} (g : Ghosts S) where
   -- The store follows the same tables, one that had failed stays as it is, and if the disk is clean afterwards, it was so before.
@@ -21,6 +21,7 @@ module _ {S : Type 0} (g : Ghosts S) where
     -- The observer does not take back that it has stopped, and if it had stopped before, the store stays as it is.
     pub stays : was.has_stopped ≡ true → is.has_stopped ≡ true
     pub heeds : (broken : Bool) (content : Content) → HoldsAs g broken content before → was.has_stopped ≡ true → after ≡ before
+    pub grows : HasGrown was is
     -- What was reported to it leads from the content before to the one afterwards, and these are the ends of connections in it.
     pub notes : HasCleanDisk (database g after) → (broken : Bool) (content : Content) → HoldsAs g broken content before → IsLedOver g before after broken content was is ends
 

@@ -21,11 +21,12 @@ use Rattle.replica.specs.Over.{LeavesOnly}
 use Rattle.replica.specs.Marks.{is_unfinished}
 use Rattle.replica.specs.Missing.{waits_for_none}
 
--- What is reported to an observer: the executed set of a database that was opened; of a new transaction that it is to be applied, or that
--- the observer has stopped before it; of a transaction whether it was applied, which one that is executed is not, or why the
--- connection ends; and how a connection has ended, and whether the observer goes on.
+-- What is reported to an observer: the executed set of a database that was opened; that the source has been reached; of a new transaction
+-- that it is to be applied, or that the observer has stopped before it; of a transaction whether it was applied, which one that is
+-- executed is not, or why the connection ends; and how a connection has ended, and whether the observer goes on.
 pub data Notice : Type 0 where
   opened : Ids → Notice
+  connected : Notice
   before : DeliveryValue → Notice
   stopped : DeliveryValue → Notice
   after : DeliveryValue → Result Bool Reason → Notice
@@ -137,6 +138,7 @@ LeadsBy names old (stopped d ∷ notices) new = (is_executed old d ≡ false) ×
 LeadsBy names old (after d (Ok true) ∷ notices) new = ⊥
 LeadsBy names old (after d answer ∷ notices) new = HasOutcome names old d repeat × LeadsBy names old notices new
 LeadsBy names old (opened ids ∷ notices) new = (ids ≡ old.executed) × LeadsBy names old notices new
+LeadsBy names old (connected ∷ notices) new = LeadsBy names old notices new
 LeadsBy names old (ended end true ∷ notices) new = LeadsBy names old notices new
 LeadsBy names old (ended end false ∷ notices) new = (notices ≡ []) × (new ≡ old)
 
@@ -255,6 +257,15 @@ pub record IsNotedOf (names : Names) (old new : Content) (was is : Account) (end
 abbrev pub BeginsWith : Ids → List Notice → Type 0
 BeginsWith executed (opened ids ∷ notices) = ids ≡ executed
 BeginsWith executed _ = ⊥
+
+-- What was reported was added to an account.
+abbrev pub HasGrown : Account → Account → Type 0
+HasGrown was is = (notices : List Notice) × HasBeenNoted was.noted is.noted notices
+
+-- What was reported first is that a database was opened, and next that the source was reached; where it was not, nothing more.
+abbrev pub BeginsConnected : {T E : Type 0} → Account → Account → Result T E → Type 0
+BeginsConnected was is (Ok followed) = (executed : Ids) × (rest : List Notice) × HasBeenNoted was.noted is.noted (opened executed ∷ connected ∷ rest)
+BeginsConnected was is (Err cause) = (executed : Ids) × HasBeenNoted was.noted is.noted (opened executed ∷ [])
 
 -- The same since a database with the first content was opened. A connection of a list was read only if something was missing of what
 -- the observer waited for. After a failure of the store no transaction was applied. Where the observer does not take the database, no

@@ -3,7 +3,7 @@
 ghost use Rattle.std.specs.Prelude.{◌≡◌, true, false, not, [], ◌∷◌, None, if◌then◌else◌};
 ghost use Rattle.binlog.specs.EventView.{event_value};
 ghost use Rattle.gather.specs.View.{delivery_value};
-ghost use Rattle.replica.specs.Noted.{Account, Excludes, HasNotices, HasNoNotice, HasBeenSeen, opened, before, stopped, after, ended, event_read, refused_payload};
+ghost use Rattle.replica.specs.Noted.{Account, Excludes, HasNotices, HasNoNotice, HasBeenSeen, opened, connected, before, stopped, after, ended, event_read, refused_payload};
 ghost use Rattle.replica.specs.Missing.{waits_for_none};
 
 use crate::session::end::{Ended, Reason};
@@ -26,9 +26,8 @@ pub trait Observer {
 
     /// Called when the source has been reached.
     fn connected(&mut self)
-        ensures noticed { HasNoNotice (account self.old) (account self.new) }
-        ensures seen { (account self.new).seen ≡ (account self.old).seen }
-    {}
+        ensures noticed { HasNotices (account self.old) (account self.new) (connected ∷ []) }
+        ensures seen { (account self.new).seen ≡ (account self.old).seen };
 
     /// Called after this many bytes of a connection have been read, before they are used.
     fn received(&mut self, _count: usize)
@@ -96,6 +95,8 @@ impl Observer for Unobserved {
     } };
 
     fn opened(&mut self, _executed: &GtidSet, _following: &Follow) {}
+
+    fn connected(&mut self) {}
 
     fn event(&mut self, _event: &Event<'_>, _bytes: &[u8], _pending: usize) {}
 

@@ -96,6 +96,8 @@ impl Observer for SkipWatch<'_> {
         }
     }
 
+    fn connected(&mut self) {}
+
     fn event(&mut self, _event: &Event<'_>, _bytes: &[u8], _pending: usize) {}
 
     fn before_apply(&mut self, delivery: &Delivery) -> bool {

@@ -7,7 +7,7 @@ ghost use Rattle.store.specs.Store.{HoldsAs, database};
 ghost use Rattle.store.specs.Entering.{wanted_of, names_for};
 ghost use Rattle.replica.specs.NotedFile.{AreNoted, EndsInFiles};
 ghost use Rattle.replica.specs.File.{OfHeld, IsTurnedAway, ClosesAs};
-ghost use Rattle.replica.specs.Noted.{IsAsked};
+ghost use Rattle.replica.specs.Noted.{BeginsConnected, IsAsked};
 ghost use Rattle.replica.specs.Conn.{StoreState};
 ghost use Rattle.replica.specs.FollowFile.{Connects, FollowsFile, CountsFailures};
 ghost use Rattle.replica.specs.Keeps.{KeepsSinceOpening};
@@ -56,6 +56,7 @@ fn connect_and_follow<
     ensures asked { IfOk result (λ done. IsAsked done.0.reason (W.account observer.new)) }
     ensures keeps { KeepsSinceOpening S.Store store.old store.new (W.account observer.old)
         (W.account observer.new) [] }
+    ensures reached { BeginsConnected (W.account observer.old) (W.account observer.new) result }
 {
     let executed = store.executed();
     observer.opened(executed, store.following());
@@ -114,6 +115,9 @@ pub fn follow_file<
     // before, nothing is applied.
     ensures noted { IfOk result (λ done. AreNoted (wanted_of only.entry) (image_at P.Start)
         (λ content. content) (W.account observer.old) (W.account observer.new) [] done.closed) }
+    // It begins with the opening, and then that the source was reached, if it was.
+    ensures reached { IfOk result (λ done. BeginsConnected (W.account observer.old)
+        (W.account observer.new) done.connection) }
     // A database that stands for a content is refused only if it was made for other tables, fails, or memory runs out, and is
     // left with that content. Any other is refused with its reason and left as it is, and so are files that cannot be opened.
     ensures turned { IfErr result (IsTurnedAway (wanted_of only.entry) (image_at P.Start)) }

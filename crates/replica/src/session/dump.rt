@@ -17,7 +17,7 @@ ghost use Rattle.store.specs.Changes.{is_executed};
 ghost use Rattle.replica.specs.Conn.{IsOwn};
 ghost use Rattle.replica.specs.Alone.{TakesAlone, IsOwnOrHalted};
 ghost use Rattle.replica.specs.Event.{TakesEvent, so_far};
-ghost use Rattle.replica.specs.Noted.{HasNotices, HasNoNotice, asked_about, MayEnd};
+ghost use Rattle.replica.specs.Noted.{HasGrown, HasNotices, HasNoNotice, asked_about, MayEnd};
 ghost use Rattle.replica.specs.Sees.{SeesEvent, SeesPayload};
 ghost use Rattle.replica.specs.Missing.{waits_for_none};
 ghost use Rattle.replica.specs.Keeps.{KeepsObserved};
@@ -119,6 +119,7 @@ fn is_halted<S: Alter, W: Observer>(store: &Store<S>, delivery: &Delivery, obser
         → result ≡ false → waits_for_none (W.account observer.new).waits ≡ false }
     ensures stays { (W.account observer.old).has_stopped ≡ true
         → (W.account observer.new).has_stopped ≡ true }
+    ensures grows { HasGrown (W.account observer.old) (W.account observer.new) }
     ensures seen { (W.account observer.new).seen ≡ (W.account observer.old).seen }
 {
     if store.executed().contains(delivery.gtid) {

@@ -4,7 +4,7 @@ use Rattle.replica.specs.Noted.{asked_about}
 use Rattle.replica.proofs.Notices.{Asks, led_to_stop, led_broken, led_whole}
 use Rattle.replica.proofs.Events.{halts, over_broken, over_whole, heeded}
 use Rattle.replica.proofs.Alone.{own_alone, taken_alone}
-use Rattle.replica.proofs.Keeps.{store_same}
+use Rattle.replica.proofs.Keeps.{store_same, grown_more}
 use Rattle.replica.proofs.session.dump.apply.Goals as goal
 
 pub returns-then-is_halted-clause-step : goal.returns-then-is_halted-clause-step
@@ -40,6 +40,7 @@ returns-then-is_halted-clause-keeps g c = record {
   store = store_same g.S.Store;
   stays = c.is_halted.ensures.stays;
   heeds = λ is now holds on. refl;
+  grows = c.is_halted.ensures.grows;
   notes = λ clean was old holds.
       let d = delivery_value c.args.delivery.now in
       let t0 : Account = g.W.Observer.account c.args.observer.now in
@@ -55,6 +56,7 @@ returns-clause-keeps g c = record {
   heeds = λ is now holds on.
       heeded g.S.Store is now (delivery_value c.args.delivery.now) c.args.store.now c.apply.new.self c.is_halted.result (g.W.Observer.account c.is_halted.new.observer).has_stopped holds (c.is_halted.ensures.heeds is now holds) (c.is_halted.ensures.stays on) c.if-is_halted.false
       (λ b. (c.apply.ensures.broken b).1) (λ content keeps it. (c.apply.ensures.known content keeps it).1);
+  grows = grown_more (g.W.Observer.account c.args.observer.now) (g.W.Observer.account c.is_halted.new.observer) (g.W.Observer.account c.after_apply.new.self) c.is_halted.ensures.grows (_, c.after_apply.ensures.noticed.noted);
   notes = λ clean was old holds.
       let d = delivery_value c.args.delivery.now in
       let store = c.args.store.now in
