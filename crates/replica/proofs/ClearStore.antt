@@ -1,6 +1,6 @@
 -- A store while the rows of one table are taken out of it.
 use Rattle.replica.proofs.Names.{◌≡◌, inl, inr, ℕ, arith, Bool, true, false, List, [], ◌∷◌, ◌++◌, length, Option, Some, None, Result, Ok, Err, IfErr, IsTrue, refl, sym, ap, subst, subst₂, ◌∙◌, append_assoc, append-nil, replicate, if◌then◌else◌, cases_Bool, false≢true, Ghosts, Trees, Held, Ids, CellValue, Names, admits, is_read, ChangeValue, Content, HasOutcome, done, AreDone, IsRefusedAt, Entry, StoreFault, ListError, Store, HasFailed, HoldsAs, AreOf, NoSuchRow, CountFull, Reason, Refused, Database, Memory, Halted, Account, HasNotices, StillWaits, WereMissed, has_failure, IsLeftOfNoted, IsNotedSinceOpening, IsLedOver, IsLedSinceOpening, TakesAlone, HasStayed}
-use Rattle.std.proofs.Common.{OnOk}
+use Rattle.std.proofs.Common.{OnOk, IfSome}
 use Rattle.std.specs.Prelude.{flat_map, MatchOption, MatchBool}
 use Rattle.std.specs.FinSet as set
 use Rattle.std.specs.List.{FoldsTo}
@@ -52,6 +52,10 @@ all_taken_of e old new (Err cause) here same taken = tt
 pub read_same : (found : Option (List CellValue)) (made cells : List CellValue) (bytes : List ℕ) → MatchOption found ((none : List CellValue) → IsImage none bytes → ⊥) (λ some. IsImage some bytes) → found ≡ Some made → IsImage cells bytes → made ≡ cells
 read_same found made cells bytes reads is image =
     one_list made cells bytes (subst (λ (o : Option (List CellValue)). MatchOption o ((none : List CellValue) → IsImage none bytes → ⊥) (λ some. IsImage some bytes)) is reads) image
+
+pub image_copied : (found : Option (List CellValue)) (cells : List CellValue) (bytes : List ℕ) → MatchOption found ((none : List CellValue) → IsImage none bytes → ⊥) (λ some. IsImage some bytes) → IsImage cells bytes → IfSome found (λ made. made ≡ cells)
+image_copied None cells bytes reads image = tt
+image_copied (Some made) cells bytes reads image = one_list made cells bytes reads image
 
 pub row_taken : (e : Entry) (old new : TableRows) (answer : Result (Unit {0}) NoMemory) (cells : List CellValue) (table : TableDef) (here : Bool) → table ≡ old.table.value → here ≡ is_in_table table.schema.items table.table.items e.0 → here ≡ true → new.table ≡ old.table → cells ≡ e.0.cells
     → OnOk answer (new.changes ≡ old.changes ++ replicate e.1 (delete old.table.value.schema.items old.table.value.table.items cells)) → TakesRow old e answer new

@@ -14,6 +14,7 @@ pub mod Over
 pub mod Pieces
 pub mod Report
 pub mod Noted
+pub mod Recorded
 pub mod Sees
 pub mod Keeps
 pub mod Missing
