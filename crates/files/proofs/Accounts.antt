@@ -30,6 +30,9 @@ WereReadInOrder-wider file a b c d when bytes low high were =
     }
 
 -- what holds of a call and of the next one
+pub at_once : 0 ≤ 0
+at_once = omega arith
+
 pub InCall-then : (P Q R : CopyAccount → CopyAccount → Type 0) → ((x y z : CopyAccount) → (y.files ≡ x.files) → (x.now ≤ y.now) → (z.files ≡ y.files) → (y.now ≤ z.now) → P x y → Q y z → R x z) → (a b c : Option CopyAccount) → InCall P a b → InCall Q b c → InCall R a c
 InCall-then P Q R both a b None first last = tt
 InCall-then P Q R both (Some x) (Some y) (Some z) first last =

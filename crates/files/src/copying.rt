@@ -19,7 +19,7 @@ use std::{fs, io};
 const TRIES: u32 = 100;
 
 /// The two files of a database that others may write, and the copy that is made of them.
-trait FilesInUse {
+pub trait FilesInUse {
     // What the files and the copy have; `None` if no account of it is kept.
     ghost account: { Self → Option CopyAccount };
 
@@ -95,7 +95,7 @@ impl CopyPart {
 }
 
 /// Copies the two files until they fit each other, or often enough. Whether they do at last.
-fn copy_fitting<F: FilesInUse>(files: &mut F) -> io::Result<bool>
+pub fn copy_fitting<F: FilesInUse>(files: &mut F) -> io::Result<bool>
     ensures { InCall (λ before after. IfOk result (λ fits. MatchBool fits
         (CopiesBoth before after) (MeetsOtherHeader before after)))
         (F.account files.old) (F.account files.new) }

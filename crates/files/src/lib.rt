@@ -15,6 +15,7 @@ mod copy_part;
 mod copying;
 mod fault;
 mod feed_file;
+mod files_at_rest;
 mod found;
 mod input;
 mod kept_input;
@@ -31,8 +32,10 @@ mod unsupported;
 mod what_is_named;
 
 pub use copy_part::{CopyPart, make_part};
+pub use copying::{FilesInUse, copy_fitting};
 pub use fault::FileFault;
 pub use feed_file::FeedFile;
+pub use files_at_rest::FilesAtRest;
 pub use found::Found;
 pub use input::{INPUT, Input};
 pub use kept_input::KeptInput;
