@@ -56,8 +56,8 @@ abbrev by_key : List Name
 by_key = codes "schema_name" ∷ codes "table_name" ∷ codes "image" ∷ []
 
 -- The text is this SELECT.
-record Reads (text : List ℕ) (table : Name) (columns by : List Name) (len : ℕ) : Type 0 where
-  parses : first text ≡ Ok (parsed_of table columns by len)
+pub record Reads (text : List ℕ) (table : Name) (columns by : List Name) (len : ℕ) : Type 0 where
+  pub parses : first text ≡ Ok (parsed_of table columns by len)
   over : IsOver (core_of table columns) table (written_columns columns) None
   ordered : IsOrdered (select_of table columns by) (core_of table columns) (written_order by)
 
@@ -72,23 +72,23 @@ module _ (text : List ℕ) (table : Name) (columns by : List Name) (len : ℕ) w
     ordered = record { with = rw parts refl; first = rw parts refl; others = rw parts refl; order = rw parts refl; limit = rw parts refl; offset = rw parts refl };
   }
 
-reads_meta : Reads all_meta_text (codes "meta") meta_columns by_rowid 43
+pub reads_meta : Reads all_meta_text (codes "meta") meta_columns by_rowid 43
 unfolding everything
 reads_meta = read_as all_meta_text (codes "meta") meta_columns by_rowid 43 refl refl refl
 
-reads_executed : Reads all_executed_text (codes "executed") executed_columns by_rowid 57
+pub reads_executed : Reads all_executed_text (codes "executed") executed_columns by_rowid 57
 unfolding everything
 reads_executed = read_as all_executed_text (codes "executed") executed_columns by_rowid 57 refl refl refl
 
-reads_held : Reads all_held_text (codes "held") held_columns by_rowid 72
+pub reads_held : Reads all_held_text (codes "held") held_columns by_rowid 72
 unfolding everything
 reads_held = read_as all_held_text (codes "held") held_columns by_rowid 72 refl refl refl
 
-reads_spans : Reads all_spans_text (codes "spans") spans_columns by_rowid 54
+pub reads_spans : Reads all_spans_text (codes "spans") spans_columns by_rowid 54
 unfolding everything
 reads_spans = read_as all_spans_text (codes "spans") spans_columns by_rowid 54 refl refl refl
 
-reads_follow : Reads all_follow_text (codes "follow") follow_columns by_rowid 64
+pub reads_follow : Reads all_follow_text (codes "follow") follow_columns by_rowid 64
 unfolding everything
 reads_follow = read_as all_follow_text (codes "follow") follow_columns by_rowid 64 refl refl refl
 

@@ -1,12 +1,13 @@
 -- The end of a transaction that makes a database.
-use Rattle.store.proofs.Names.{◌≡◌, true, false, refl, sym, subst, subst₂, ◌∙◌, Ok, Err, Result, OnOk, OnErr, IfErr, IsTrue, [], arith, Error, State, HasCleanDisk, IsLive, KeepsCommit, Survives, FailsToCommit, Held, Trees, Content, LiesBeside, IsAtRest, Rests, MayStandFor, HasMade, Names}
+use Rattle.store.proofs.Names.{◌≡◌, inl, inr, true, false, refl, sym, subst, subst₂, ◌∙◌, Ok, Err, Result, OnOk, OnErr, IfErr, IsTrue, [], arith, Error, State, HasCleanDisk, IsLive, KeepsCommit, Survives, FailsToCommit, Held, Trees, Content, LiesBeside, IsAtRest, Rested, IsRolledBack, MayStandFor, HasMade, Names}
 use Rattle.sqlite.specs.State.{KeepsCounts, Shows}
 use Rattle.sqlite_trees.specs.declared.store.Store as store
 use Rattle.sqlite.specs.Held.{state}
 use Rattle.store.specs.Open.{IsBlank, IsFirstAtRest}
 use Rattle.store.specs.Making.{IsMaking}
 use Rattle.store.specs.Migrating.{IsFirstInside}
-use Rattle.store.proofs.Ran.{rests_failed, at_rest}
+use Rattle.store.proofs.Keeps.{kept_then, kept_rolled}
+use Rattle.store.proofs.Ran.{rests_rolled, at_rest}
 use Rattle.store.proofs.BesideStays.{beside_unchanged}
 
 pub making_inside : {S : Type 0} (g : store.Ghosts S) (h : Held S) → IsLive (state g h) → IsBlank (state g h) → IsMaking [] (state g (record h { in_transaction = true }))
@@ -32,9 +33,22 @@ first_inside g h content rest = record {
   sound = rest.sound;
 }
 
-pub rests_unless : (t m n : State) (r : Result (Unit {0}) Error) → t.now ≡ t.committed → KeepsCommit t m → m.in_transaction ≡ true → IfErr r (FailsToCommit m n) → OnErr r (Rests t n)
-rests_unless t m n (Ok u) settled kept inside fails = tt
-rests_unless t m n (Err e) settled kept inside fails = rests_failed t m n e settled kept inside fails
+-- The transaction was given up, whatever was done in it.
+pub rested_rolled : (t m n : State) → KeepsCommit t m → IsRolledBack m n → Rested t n
+rested_rolled t m n kept undone = record { commit = kept_then t m n kept (kept_rolled m n undone); rests = λ settled. rests_rolled t m n settled kept undone }
+
+-- It began then.
+pub rested_begun : {S : Type 0} (g : store.Ghosts S) (h : Held S) (n : State) → Rested (state g (record h { in_transaction = true })) n → Rested (state g h) n
+rested_begun g h n it = record { commit = record { was_open = it.commit.was_open; committed = it.commit.committed }; rests = it.rests }
+
+-- Its commit failed.
+rested_failed : (t m n : State) (e : Error) → KeepsCommit t m → m.in_transaction ≡ true → FailsToCommit m n e → Rested t n
+rested_failed t m n e kept inside (inl fails) = rested_rolled t m n kept fails.3
+rested_failed t m n e kept inside (inr late) = absurd (let no = late.1 in cc)
+
+pub rested_unless : {S : Type 0} (g : store.Ghosts S) (h : Held S) (m n : State) (r : Result (Unit {0}) Error) → KeepsCommit (state g (record h { in_transaction = true })) m → m.in_transaction ≡ true → IfErr r (FailsToCommit m n) → OnErr r (Rested (state g h) n)
+rested_unless g h m n (Ok u) kept inside fails = tt
+rested_unless g h m n (Err e) kept inside fails = rested_begun g h n (rested_failed (state g (record h { in_transaction = true })) m n e kept inside fails)
 
 -- The transaction has been committed.
 abbrev pub HasEnded : State → State → Type 0
@@ -59,9 +73,6 @@ module _ {S : Type 0} (g : store.Ghosts S) (h : Held S) (names : Names) (content
 
   pub committed : (HasCleanDisk n → OnOk r (HasEnded m n)) → HasCleanDisk n → OnOk r (IsAtRest n names content × LiesBeside (state g h).now n.now)
   committed ok late = made_rest names content t m n r settled (kept (early late)) (made (early late)) (ok late)
-
-  pub failed : (HasCleanDisk n → IfErr r (FailsToCommit m n)) → HasCleanDisk n → OnErr r (Rests (state g h) n)
-  failed err late = rests_unless t m n r settled (kept (early late)) (made (early late)).working.inside (err late)
 
   pub may_stand : HasCleanDisk n → (db : Trees) → db ≡ m.now.trees → MayStandFor (state g h).now names content db
   may_stand late db is =

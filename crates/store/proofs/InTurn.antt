@@ -1,6 +1,7 @@
 -- A table that is read after others: what its call says of the state before it is so of the first state.
 use Rattle.store.proofs.Names.{◌≡◌, false, ℕ, List, Ok, Err, Result, refl, sym, ap, subst, ◌∙◌, Row, Database, State, HasCleanDisk, IsUnchanged, Survives, unchanged_then, survives_then, StoreFault, AsksAll, Rested, Judges}
-use Rattle.store.specs.Load.{ReadsAll, LoadsAll}
+use Rattle.store.specs.Load.{ReadsAll, LoadsAll, IsCalm}
+use Rattle.store.proofs.OnlyReading.{calm_self, calm_then}
 use Rattle.store.proofs.Steps.{rested_after, clean_before, first_step, seen_by, fault_by}
 use Rattle.store.proofs.Lives.{over_any, any_then, narrowed}
 
@@ -11,10 +12,11 @@ pub record Leads (laid : Type 0) (a b : State) : Type 1 where
   pub rested : HasCleanDisk b → laid → (c : State) → Rested b c → Rested a c
   pub crash : laid → (c : State) → Survives b c (λ _. ⊥) → Survives a c (λ _. ⊥)
   pub lives : (c : State) → Survives b c (λ _. Unit {0}) → Survives a c (λ _. Unit {0})
+  pub calm : IsCalm a b
   pub autocommit : a.in_transaction ≡ false → b.in_transaction ≡ false
 
 pub at_start : (laid : Type 0) (a : State) → Leads laid a a
-at_start laid a = record { now = λ clean l. refl; same = λ clean l c same. same; rested = λ clean l c rested. rested; crash = λ l c survives. survives; lives = λ c lives. lives; autocommit = λ out. out }
+at_start laid a = record { now = λ clean l. refl; same = λ clean l c same. same; rested = λ clean l c rested. rested; crash = λ l c survives. survives; lives = λ c lives. lives; calm = calm_self a; autocommit = λ out. out }
 
 -- One more table is read, all of which the text asks for.
 module _ {laid : Type 0} {a b c : State} {text : List ℕ} {tree : ℕ} {X : Type 0} {r : Result X StoreFault} {Lawful : List Row → X → Type 0} {rules : List Row → Type 0}
@@ -33,6 +35,9 @@ module _ {laid : Type 0} {a b c : State} {text : List ℕ} {tree : ℕ} {X : Typ
 
   lives_on : Survives a c (λ _. Unit {0})
   lives_on = so.lives c (over_any b c _ reads.crash)
+
+  calm_on : IsCalm a c
+  calm_on = calm_then a b c so.calm reads.calm
 
   commits_nothing : laid → Survives b c (λ _. ⊥)
   commits_nothing l = narrowed b c (λ _. ⊥) _ reads.crash (λ clean. first_step b c text tree (asks_on clean l) reads.crash)
@@ -57,6 +62,7 @@ module _ {laid : Type 0} {a b c : State} {text : List ℕ} {tree : ℕ} {X : Typ
     rested = λ clean l d rested. so.rested (early so asks reads clean) l d (rested_after b c d (stays clean l) rested);
     crash = λ l d after. so.crash l d (survives_then b c d (λ _. ⊥) (λ _. ⊥) (λ _. ⊥) (λ _ db none. absurd none) (λ _ db none. none) (commits_nothing so asks reads l) after);
     lives = λ d after. so.lives d (any_then b c d _ (over_any b c _ reads.crash) after);
+    calm = calm_on so asks reads;
     autocommit = λ out. reads.autocommit (so.autocommit out);
   }
 
@@ -70,6 +76,7 @@ module _ {laid : Type 0} {a b c : State} {text : List ℕ} {tree : ℕ} {X : Typ
         rested = rested_on so asks reads;
         lives = lives_on so asks reads;
         crash = crash_on so asks reads;
+        calm = calm_on so asks reads;
         fault = tt;
         autocommit = λ out. reads.autocommit (so.autocommit out);
       }
@@ -84,6 +91,7 @@ module _ {laid : Type 0} {a b c : State} {text : List ℕ} {tree : ℕ} {X : Typ
     rested = rested_on so asks reads;
     lives = lives_on so asks reads;
     crash = crash_on so asks reads;
+    calm = calm_on so asks reads;
     fault = reads.fault;
     autocommit = λ out. reads.autocommit (so.autocommit out);
   })

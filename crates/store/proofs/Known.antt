@@ -7,10 +7,11 @@ use Rattle.store.specs.declared.layout.KnownLayout.{KnownLayout}
 use Rattle.store.specs.declared.layout.KnownLayout.TheVariants.{First, Second}
 use Rattle.store.specs.declared.table.meta.Meta.{Meta}
 use Rattle.store.specs.Judge.{IsMeta}
-use Rattle.store.specs.Load.{StatesLayout, HasLayout, Enters, EntersWhere}
+use Rattle.store.specs.Load.{StatesLayout, HasLayout, IsCalm, Enters, EntersWhere}
 use Rattle.store.specs.declared.load.Loaded.{Loaded}
 use Rattle.store.specs.Entering.{IsKnown, IsDamaged, lacks_first, lacks_second, breaks_first, breaks_second, blank, first, second, lacking, IsWhy, IsEntered, has_first, has_second}
 use Rattle.store.proofs.Lives.{narrowed}
+use Rattle.store.proofs.OnlyReading.{spares_then}
 use Rattle.store.proofs.OpeningOutcome.{rests_after, weaken}
 
 -- ---- known schemas
@@ -119,7 +120,7 @@ module _ (only : Option Names) (old mid new : State) (layout : KnownLayout) (r :
   crash_then one = may_then (names_for only) old mid new one enters.lives same (λ clean. let it = reached clean in enters.crash it.ready it.has)
 
 -- The same of a database of which this holds, whatever it was before.
-module _ {so : Type 0} {only : Option Names} {old mid new : State} {layout : KnownLayout} {r : Result Loaded StoreFault} (clean : HasCleanDisk mid → HasCleanDisk old) (one : IsReady old → so → Survives old mid (λ _. ⊥))
+module _ {so : Type 0} {only : Option Names} {old mid new : State} {layout : KnownLayout} {r : Result Loaded StoreFault} (clean : HasCleanDisk mid → HasCleanDisk old) (calm : IsCalm old mid) (one : IsReady old → so → Survives old mid (λ _. ⊥))
     (same : IsReady old → so → HasCleanDisk mid → IsUnchanged old mid) (has : IsReady old → so → HasCleanDisk mid → HasLayout old.now layout) (meta : so → (tables_of old.now.schema).meta ≡ true)
     (enters : Enters only layout mid new r) where
   pub enters_then : EntersWhere so only old new r
@@ -127,6 +128,7 @@ module _ {so : Type 0} {only : Option Names} {old mid new : State} {layout : Kno
     entered = λ late ready is. entered_then only old mid new layout r enters ready (same ready is) (has ready is) late;
     turned = λ late ready is. turned_then only old mid new layout r enters ready (same ready is) (has ready is) (meta is) late;
     crash = λ ready is. crash_then only old mid new layout r enters ready (same ready is) (has ready is) (one ready is);
+    spares = spares_then old mid new r calm (λ late. omega (arith, enters.lives.clean, late)) enters.spares;
     fault = enters.fault;
     clean = λ late. clean (omega (arith, enters.lives.clean, late));
     autocommit = enters.autocommit;

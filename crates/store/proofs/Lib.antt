@@ -53,6 +53,7 @@ pub mod Listings
 pub mod RowVisits
 pub mod SameSchema
 pub mod OneState
+pub mod OnlyReading
 pub mod CrashOpenings
 pub mod QueryOrder
 pub mod SortedLists

@@ -1,5 +1,5 @@
 -- Private: reading whole tables when a database is opened, and what the rows stand for.
-use Rattle.std.specs.Prelude.{◌≡◌, ℕ, ℤ, suc, zero, pos, negsuc, true, false, List, [], ◌∷◌, codes, length, Option, None, Result, Ok, Err, IfOk, IfErr, OnOk, IsTrue, IsPermutation}
+use Rattle.std.specs.Prelude.{◌≡◌, ◌⊎◌, ℕ, ℤ, suc, zero, pos, negsuc, true, false, List, [], ◌∷◌, codes, length, Option, None, Result, Ok, Err, IfOk, IfErr, OnOk, OnErr, IsTrue, IsPermutation}
 use Rattle.sqlite_value.specs.declared.value.Value.TheVariants.{Int}
 use Rattle.sqlite_value.specs.declared.keys.Key.{Key}
 use Rattle.sqlite_sql.specs.Term.{Term, lit, col}
@@ -16,6 +16,7 @@ use Rattle.sqlite.specs.Effect.{Database as Stored}
 use Rattle.sqlite.specs.State.{State, HasCleanDisk, Survives, KeepsCommit, IsUnchanged}
 use Rattle.sqlite.specs.Held.{Held, state}
 use Rattle.sqlite_trees.specs.declared.store.Store.{Ghosts}
+use Rattle.sqlite_resolve.specs.declared.compiled.Compiled.{Compiled}
 use Rattle.sqlite.specs.Listing.{understood, reads_listing}
 use Rattle.sqlite.specs.Given.{IsPlain, HasGiven}
 use Rattle.sqlite.proofs.Callers.{command_of}
@@ -34,7 +35,7 @@ use Rattle.std.specs.List.{AllByRecursion}
 use Rattle.std.specs.Borrow.{MutBor}
 use Rattle.store.specs.Apply.{IsAtRest, Rests}
 use Rattle.store.specs.Inside.{WasOpen}
-use Rattle.store.specs.Faults.{IsOpenFault}
+use Rattle.store.specs.Faults.{IsOpenFault, IsFailure}
 use Rattle.store.specs.Open.{IsFirstAtRest}
 use Rattle.store.specs.Entering.{IsReady, IsEntered, IsTurned, MayEnter, names_for, tables_of}
 use Rattle.store.specs.declared.load.Loaded.{Loaded}
@@ -147,11 +148,21 @@ pub record Rested (old new : State) : Type 0 where
   pub commit : KeepsCommit old new
   pub rests : old.now ≡ old.committed → Rests old new
 
+-- Whatever the schema is, the text is no write that shows rows: it only reads.
+abbrev pub OnlyReads : List ℕ → Type 0
+OnlyReads text = (schema : Schema) (c : Compiled) → understood schema text ≡ Ok c → c.returning ≡ None
+
+-- Only what reads was done, whatever the tables are.
+pub record IsCalm (old new : State) : Type 0 where
+  pub rested : HasCleanDisk new → Rested old new
+  pub survives : Survives old new (λ _. ⊥)
+
 -- What a call comes to that reads from tables which are laid out so. Nothing is committed.
 pub record Looks {X E : Type 0} (laid : Type 0) (old new : State) (r : Result X E) : Type 0 where
   pub same : HasCleanDisk new → laid → OnOk r (IsUnchanged old new)
   pub rested : HasCleanDisk new → laid → Rested old new
   pub survives : laid → Survives old new (λ _. ⊥)
+  pub calm : IsCalm old new
   -- A connection that is open afterwards was open before, and one that answered was open.
   pub opened : HasCleanDisk new → WasOpen old new
   pub live : HasCleanDisk new → OnOk r (IsTrue old.is_open)
@@ -167,6 +178,7 @@ pub record ReadsRows {X E : Type 0} (text : List ℕ) (old new : State) (r : Res
   pub same : HasCleanDisk new → (tree : ℕ) → AsksAll old.now.schema text tree → OnOk r (IsUnchanged old new)
   pub rested : HasCleanDisk new → (tree : ℕ) → AsksAll old.now.schema text tree → Rested old new
   pub crash : Survives old new (λ _. (tree : ℕ) → ¬ AsksAll old.now.schema text tree)
+  pub calm : OnlyReads text → IsCalm old new
   pub opened : HasCleanDisk new → WasOpen old new
   pub live : HasCleanDisk new → OnOk r (IsTrue old.is_open)
   pub autocommit : old.in_transaction ≡ false → new.in_transaction ≡ false
@@ -177,6 +189,7 @@ pub record ReadsAll {X : Type 0} (text : List ℕ) (old new : State) (r : Result
   pub same : HasCleanDisk new → (tree : ℕ) → AsksAll old.now.schema text tree → OnSeen r (IsUnchanged old new)
   pub rested : HasCleanDisk new → (tree : ℕ) → AsksAll old.now.schema text tree → Rested old new
   pub crash : Survives old new (λ _. (tree : ℕ) → ¬ AsksAll old.now.schema text tree)
+  pub calm : IsCalm old new
   pub fault : IfErr r IsLoadFault
   pub autocommit : old.in_transaction ≡ false → new.in_transaction ≡ false
 
@@ -188,6 +201,7 @@ pub record LoadsAll {X : Type 0} (laid says : Type 0) (old new : State) (r : Res
   pub rested : HasCleanDisk new → laid → Rested old new
   pub lives : Survives old new (λ _. Unit {0})
   pub crash : laid → Survives old new (λ _. ⊥)
+  pub calm : IsCalm old new
   pub fault : IfErr r IsLoadFault
   pub autocommit : old.in_transaction ≡ false → new.in_transaction ≡ false
 
@@ -231,11 +245,17 @@ pub record IsFirstLoaded (s : State) (executed : Ids) : Type 0 where
 
 -- ---- Entering a database.
 
+-- A refusal leaves any database as it was, and so does a crash after it, unless the database failed or memory ran out.
+pub record Spares {X : Type 0} (old new : State) (r : Result X StoreFault) : Type 0 where
+  pub rested : HasCleanDisk new → OnErr r (Rested old new)
+  pub survives : IfErr r (λ fault. IsFailure fault ⊎ Survives old new (λ _. ⊥))
+
 -- What a call comes to that enters a database of which this holds.
 pub record EntersWhere (so : Type 0) (only : Option Names) (old new : State) (r : Result Loaded StoreFault) : Type 0 where
   pub entered : HasCleanDisk new → IsReady old → so → IfOk r (λ l. IsEntered only old new l.executed l.following)
   pub turned : HasCleanDisk new → IsReady old → so → IfErr r (IsTurned only old new)
   pub crash : IsReady old → so → Survives old new (MayEnter (names_for only) old)
+  pub spares : Spares old new r
   pub fault : IfErr r (IsOpenFault only)
   pub clean : HasCleanDisk new → HasCleanDisk old
   pub autocommit : new.in_transaction ≡ false
@@ -246,5 +266,6 @@ pub record Enters (only : Option Names) (layout : KnownLayout) (old new : State)
   pub turned : HasCleanDisk new → IsReady old → HasLayout old.now layout → (tables_of old.now.schema).meta ≡ true → IfErr r (IsTurned only old new)
   pub lives : Survives old new (λ _. Unit {0})
   pub crash : IsReady old → HasLayout old.now layout → Survives old new (MayEnter (names_for only) old)
+  pub spares : Spares old new r
   pub fault : IfErr r (IsOpenFault only)
   pub autocommit : new.in_transaction ≡ false

@@ -1,5 +1,5 @@
 -- What opening a database with a connection comes to.
-use Rattle.std.specs.Prelude.{◌≡◌, true, false, Option, Result, Err, IfOk, IfErr, MatchResult}
+use Rattle.std.specs.Prelude.{◌≡◌, ◌⊎◌, true, false, Option, Result, Err, IfOk, IfErr, MatchResult}
 use Rattle.sqlite_trees.specs.declared.store.Store.{Ghosts}
 use Rattle.sqlite.specs.State.{HasCleanDisk, Survives}
 use Rattle.sqlite.specs.Held.{Held, state}
@@ -10,7 +10,8 @@ use Rattle.store.specs.declared.store.Store.{Store}
 use Rattle.store.specs.State.{Content}
 use Rattle.store.specs.Layout.{IsLaidOut}
 use Rattle.store.specs.Beside.{LiesBeside}
-use Rattle.store.specs.Faults.{IsOpenFault}
+use Rattle.store.specs.Apply.{Rests}
+use Rattle.store.specs.Faults.{IsOpenFault, IsFailure}
 use Rattle.store.specs.Entering.{IsReady, IsTurned, IsWanted, IsRefusedOpening, IsLeft, ReadsLeft, MayEnter, tables_of, has_any, names_for}
 use Rattle.store.specs.Store.{Holds, Opens, database, names_of}
 
@@ -30,6 +31,11 @@ pub record IsOpenedFor {S : Type 0} (g : Ghosts S) (wanted : Option Names) (conn
   -- A refusal has its reason, and nothing has changed.
   pub turned : IfErr result (λ e. HasCleanDisk (state g e.1) → IsReady (state g conn)
       → IsTurned wanted (state g conn) (state g e.1) e.0)
+  -- A refusal leaves any database as it was, whatever its tables are.
+  pub refused : IfErr result (λ e. HasCleanDisk (state g e.1)
+      → (state g conn).now ≡ (state g conn).committed → Rests (state g conn) (state g e.1))
+  -- So does a crash after it, unless the database failed or memory ran out.
+  pub spared : IfErr result (λ e. IsFailure e.0 ⊎ Survives (state g conn) (state g e.1) (λ _. ⊥))
   -- Tables without `meta` are damaged, whatever else the database has.
   pub headless : (tables_of (state g conn).now.schema).meta ≡ false
       → has_any (tables_of (state g conn).now.schema) ≡ true → result ≡ Err (Damaged, conn)

@@ -4,7 +4,8 @@ ghost use Rattle.std.specs.Prelude.{◌≡◌, [], false, OnOk, OnErr};
 ghost use Rattle.sqlite.specs.State.{HasCleanDisk, Survives};
 ghost use Rattle.sqlite.specs.Held.{state};
 ghost use Rattle.store.specs.Beside.{LiesBeside};
-ghost use Rattle.store.specs.Apply.{IsAtRest, Rests};
+ghost use Rattle.store.specs.Apply.{IsAtRest};
+ghost use Rattle.store.specs.Load.{Rested};
 ghost use Rattle.store.specs.Open.{nothing, IsBlank, MayStandFor};
 ghost use Rattle.store.specs.Inside.{Stays, TurnsInto};
 ghost use Rattle.store.specs.Making.{new_layout, IsMaking, HasMade};
@@ -47,8 +48,8 @@ pub(crate) fn make<S: Alter>(conn: &mut Connection<S>, filter: &Follow) -> Resul
     ensures made { HasCleanDisk (state S.Store conn.new) → IsBlank (state S.Store conn.old)
         → OnOk result (IsAtRest (state S.Store conn.new) filter.now nothing
         × LiesBeside (state S.Store conn.old).now (state S.Store conn.new).now) }
-    ensures refused { HasCleanDisk (state S.Store conn.new) → IsBlank (state S.Store conn.old)
-        → OnErr result (Rests (state S.Store conn.old) (state S.Store conn.new)) }
+    ensures refused { HasCleanDisk (state S.Store conn.new)
+        → OnErr result (Rested (state S.Store conn.old) (state S.Store conn.new)) }
     ensures crash { IsBlank (state S.Store conn.old)
         → Survives (state S.Store conn.old) (state S.Store conn.new)
         (MayStandFor (state S.Store conn.old).now filter.now nothing) }

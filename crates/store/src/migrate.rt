@@ -6,7 +6,8 @@ ghost use Rattle.sqlite.specs.Held.{state};
 ghost use Rattle.store.specs.State.{Content};
 ghost use Rattle.store.specs.Inside.{Stays, TurnsInto};
 ghost use Rattle.store.specs.Beside.{LiesBeside};
-ghost use Rattle.store.specs.Apply.{IsAtRest, Rests};
+ghost use Rattle.store.specs.Apply.{IsAtRest};
+ghost use Rattle.store.specs.Load.{Rested};
 ghost use Rattle.store.specs.Open.{all, IsFirstAtRest, MayMigrate};
 ghost use Rattle.store.specs.Making.{HasMade};
 ghost use Rattle.store.specs.Migrating.{HasBare, IsFirstInside, IsMigrating};
@@ -50,9 +51,8 @@ pub(crate) fn migrate<S: Alter>(conn: &mut Connection<S>, executed: &GtidSet) ->
         → IsFirstAtRest (state S.Store conn.old) content → executed.now ≡ content.executed
         → OnOk result (IsAtRest (state S.Store conn.new) all content
         × LiesBeside (state S.Store conn.old).now (state S.Store conn.new).now) }
-    ensures refused { HasCleanDisk (state S.Store conn.new) → (content : Content)
-        → IsFirstAtRest (state S.Store conn.old) content
-        → OnErr result (Rests (state S.Store conn.old) (state S.Store conn.new)) }
+    ensures refused { HasCleanDisk (state S.Store conn.new)
+        → OnErr result (Rested (state S.Store conn.old) (state S.Store conn.new)) }
     ensures crash { Survives (state S.Store conn.old) (state S.Store conn.new)
         (MayMigrate (state S.Store conn.old) executed.now) }
 {

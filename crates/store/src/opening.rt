@@ -238,6 +238,7 @@ impl<S: Alter> Store<S> {
     ///   layout 1 is migrated
     /// - `turned`, `headless`, `fault`: a refusal has its reason, `Damaged`, `Layout` or `Follows`, and nothing has
     ///   changed
+    /// - `refused`, `spared`: a refusal leaves any database as it was, whatever its tables are
     /// - `beside`, `unchanged`: other tables, their indexes and rows, views and triggers stay (`LiesBeside`); opening
     ///   layout 2 changes nothing
     /// - `crash`, `left`, `reopens`, `leaves`: a crash leaves what it could leave before, or the same content in layout

@@ -1,18 +1,20 @@
-use Rattle.store.proofs.Names.{refl, ◌≡◌, subst, true, OnOk, OnErr, rules, HasCleanDisk, Survives, survives_begin, survives_then, LiesBeside, IsAtRest, Rests, MayStandFor}
+use Rattle.store.proofs.Names.{refl, ◌≡◌, subst, true, OnOk, OnErr, rules, arith, HasCleanDisk, KeepsCommit, Survives, survives_begin, survives_then, LiesBeside, IsAtRest, Rested, MayStandFor}
 use Rattle.sqlite.specs.Held.{state}
 use Rattle.store.specs.Open.{nothing}
-use Rattle.store.proofs.Ran.{rolled, survives_rolled}
-use Rattle.store.proofs.CreationCommit.{making_inside, committed, failed, may_stand}
+use Rattle.store.proofs.Ran.{survives_rolled}
+use Rattle.store.proofs.CreationCommit.{making_inside, committed, rested_rolled, rested_begun, rested_unless, may_stand}
 use Rattle.store.proofs.make.make.Goals as goal
 
 pub returns-in_err-fill-clause-refused : goal.returns-in_err-fill-clause-refused
-returns-in_err-fill-clause-refused g c clean blank =
+returns-in_err-fill-clause-refused g c clean =
     let h = c.args.conn.now in
+    let m = state g.S.Store c.fill.new.tx.conn.now in
     let n = state g.S.Store c.drop-tx.new.self.0 in
     let late : HasCleanDisk n = search (rules, clean) in
-    let rests : Rests (state g.S.Store h) n = rolled g.S.Store h (state g.S.Store c.fill.new.tx.conn.now) n blank.settled
-    (λ early. (rw c.transaction-tx.ensures.begun at c.in_err-fill.ensures.stays.kept) early refl) c.drop-tx.ensures.survives c.drop-tx.ensures.undone late in
-    search (rules, rests)
+    let early : HasCleanDisk m = omega (arith, c.drop-tx.ensures.survives.clean, late) in
+    let t = state g.S.Store (record h { in_transaction = true }) in
+    let rested : Rested (state g.S.Store h) n = rested_begun g.S.Store h n (rested_rolled t m n ((rw c.transaction-tx.ensures.begun at c.in_err-fill.ensures.stays.kept) early refl) (c.drop-tx.ensures.undone late)) in
+    search (rules, rested)
 
 pub returns-clause-made : goal.returns-clause-made
 returns-clause-made g c clean blank =
@@ -25,14 +27,17 @@ returns-clause-made g c clean blank =
     search (rules, rest)
 
 pub returns-clause-refused : goal.returns-clause-refused
-returns-clause-refused g c clean blank =
+returns-clause-refused g c clean =
     let h = c.args.conn.now in
+    let t = state g.S.Store (record h { in_transaction = true }) in
+    let m = state g.S.Store c.fill.new.tx.conn.now in
     let n = state g.S.Store c.commit.new.self.0 in
-    let begun = making_inside g.S.Store h c.schema.ensures.live blank in
     let late : HasCleanDisk n = search (rules, clean) in
-    let rests : OnErr c.commit.result (Rests (state g.S.Store h) n) = failed g.S.Store h c.args.filter.now nothing (state g.S.Store c.fill.new.tx.conn.now) n blank.settled
-    (λ early. (rw c.transaction-tx.ensures.begun at c.in_ok-fill.ensures.stays.kept) early refl) (λ early. (rw c.transaction-tx.ensures.begun at c.in_ok-fill.ensures.made) early begun) c.commit.result c.commit.ensures.survives c.commit.ensures.err late in
-    search (rules, rests)
+    let early : HasCleanDisk m = omega (arith, c.commit.ensures.survives.clean, late) in
+    let kept : KeepsCommit t m = (rw c.transaction-tx.ensures.begun at c.in_ok-fill.ensures.stays.kept) early refl in
+    let inside : m.in_transaction ≡ true = (rw c.transaction-tx.ensures.begun at c.in_ok-fill.ensures.stays.inside) early in
+    let refused : OnErr c.commit.result (Rested (state g.S.Store h) n) = rested_unless g.S.Store h m n c.commit.result kept inside (c.commit.ensures.err late) in
+    search (rules, refused)
 
 pub returns-in_err-fill-clause-crash : goal.returns-in_err-fill-clause-crash
 returns-in_err-fill-clause-crash g c blank =

@@ -1,18 +1,20 @@
-use Rattle.store.proofs.Names.{refl, ◌≡◌, subst, true, OnOk, OnErr, rules, arith, HasCleanDisk, KeepsCommit, Survives, survives_begin, survives_then, Trees, LiesBeside, IsAtRest, Rests}
+use Rattle.store.proofs.Names.{refl, ◌≡◌, subst, true, OnOk, OnErr, rules, arith, HasCleanDisk, KeepsCommit, Survives, survives_begin, survives_then, Trees, LiesBeside, IsAtRest, Rested}
 use Rattle.sqlite.specs.Held.{state}
 use Rattle.store.specs.Open.{all, MayMigrate}
-use Rattle.store.proofs.Ran.{rolled, survives_rolled}
-use Rattle.store.proofs.CreationCommit.{first_inside, committed, rests_unless, may_stand}
+use Rattle.store.proofs.Ran.{survives_rolled}
+use Rattle.store.proofs.CreationCommit.{first_inside, committed, rested_rolled, rested_begun, rested_unless, may_stand}
 use Rattle.store.proofs.migrate.migrate.Goals as goal
 
 pub returns-in_err-convert-clause-refused : goal.returns-in_err-convert-clause-refused
-returns-in_err-convert-clause-refused g c clean content rest =
+returns-in_err-convert-clause-refused g c clean =
     let h = c.args.conn.now in
+    let m = state g.S.Store c.convert.new.tx.conn.now in
     let n = state g.S.Store c.drop-tx.new.self.0 in
     let late : HasCleanDisk n = search (rules, clean) in
-    let rests : Rests (state g.S.Store h) n = rolled g.S.Store h (state g.S.Store c.convert.new.tx.conn.now) n rest.settled
-    (λ early. (rw c.transaction-tx.ensures.begun at c.in_err-convert.ensures.stays.kept) early refl) c.drop-tx.ensures.survives c.drop-tx.ensures.undone late in
-    search (rules, rests)
+    let early : HasCleanDisk m = omega (arith, c.drop-tx.ensures.survives.clean, late) in
+    let t = state g.S.Store (record h { in_transaction = true }) in
+    let rested : Rested (state g.S.Store h) n = rested_begun g.S.Store h n (rested_rolled t m n ((rw c.transaction-tx.ensures.begun at c.in_err-convert.ensures.stays.kept) early refl) (c.drop-tx.ensures.undone late)) in
+    search (rules, rested)
 
 pub returns-clause-migrated : goal.returns-clause-migrated
 returns-clause-migrated g c clean content rest is =
@@ -25,7 +27,7 @@ returns-clause-migrated g c clean content rest is =
     search (rules, rested)
 
 pub returns-clause-refused : goal.returns-clause-refused
-returns-clause-refused g c clean content rest =
+returns-clause-refused g c clean =
     let h = c.args.conn.now in
     let t = state g.S.Store (record h { in_transaction = true }) in
     let m = state g.S.Store c.convert.new.tx.conn.now in
@@ -34,7 +36,7 @@ returns-clause-refused g c clean content rest =
     let early : HasCleanDisk m = omega (arith, c.commit.ensures.survives.clean, late) in
     let kept : KeepsCommit t m = (rw c.transaction-tx.ensures.begun at c.in_ok-convert.ensures.stays.kept) early refl in
     let inside : m.in_transaction ≡ true = (rw c.transaction-tx.ensures.begun at c.in_ok-convert.ensures.stays.inside) early in
-    let refused : OnErr c.commit.result (Rests (state g.S.Store h) n) = rests_unless t m n c.commit.result rest.settled kept inside (c.commit.ensures.err late) in
+    let refused : OnErr c.commit.result (Rested (state g.S.Store h) n) = rested_unless g.S.Store h m n c.commit.result kept inside (c.commit.ensures.err late) in
     search (rules, refused)
 
 pub returns-in_err-convert-clause-crash : goal.returns-in_err-convert-clause-crash

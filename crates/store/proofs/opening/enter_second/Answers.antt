@@ -3,6 +3,7 @@ use Rattle.std.specs.Bool.{IsTrue}
 use Rattle.sqlite.specs.Held.{state}
 use Rattle.store.proofs.OpeningOutcome.{some_wanted, entered_second, other_second}
 use Rattle.store.proofs.Known.{may_none}
+use Rattle.store.proofs.OnlyReading.{spares_calm}
 use Rattle.store.proofs.opening.enter_second.Goals as goal
 
 pub returns-in_err-loaded : goal.returns-in_err-loaded
@@ -11,6 +12,7 @@ returns-in_err-loaded g c = record {
   turned = λ clean ready has there. search (rules, has.0, has.1);
   lives = search rules;
   crash = λ ready has. may_none (names_for (wanted_of c.args.only)) _ _ (c.load.ensures.crash has.0);
+  spares = spares_calm _ _ _ c.load.ensures.calm;
   fault = search rules;
   autocommit = search rules;
 }
@@ -22,6 +24,7 @@ returns-then-differs g c = record {
       (c.in_ok-loaded.ensures.same clean has.0) (c.in_ok-loaded.ensures.loads clean has.0 ready.settled has.1) (c.differs.ensures.other (subst IsTrue (sym c.if-differs.true) refl));
   lives = search rules;
   crash = λ ready has. may_none (names_for (wanted_of c.args.only)) _ _ (c.load.ensures.crash has.0);
+  spares = spares_calm _ _ _ c.load.ensures.calm;
   fault = some_wanted (wanted_of c.args.only) c.in_ok-loaded.loaded.following (c.differs.ensures.other (subst IsTrue (sym c.if-differs.true) refl));
   autocommit = search rules;
 }
@@ -33,6 +36,7 @@ returns g c = record {
   turned = search rules;
   lives = search rules;
   crash = λ ready has. may_none (names_for (wanted_of c.args.only)) _ _ (c.load.ensures.crash has.0);
+  spares = spares_calm _ _ _ c.load.ensures.calm;
   fault = search rules;
   autocommit = search rules;
 }

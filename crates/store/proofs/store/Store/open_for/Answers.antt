@@ -15,6 +15,8 @@ returns-in-Ok g c =
       beside = λ clean ready. (c.in-Ok.ensures.enters.entered clean ready tt).beside;
       unchanged = λ clean ready. (c.in-Ok.ensures.enters.entered clean ready tt).same;
       turned = tt;
+      refused = tt;
+      spared = tt;
       headless = λ none some. let it = (c.in-Ok.ensures.headless none some).0 in absurd (cc);
       autocommit = tt;
       crash = λ ready. c.enter.ensures.enters.crash ready tt;
@@ -42,6 +44,8 @@ returns-in-Err g c =
       beside = tt;
       unchanged = tt;
       turned = λ clean ready. c.in-Err.ensures.enters.turned clean ready tt;
+      refused = λ clean settled. (c.in-Err.ensures.enters.spares.rested clean).rests settled;
+      spared = c.in-Err.ensures.enters.spares.survives;
       headless = λ none some. let it = c.in-Err.ensures.headless none some in search (rules, it);
       autocommit = c.enter.ensures.enters.autocommit;
       crash = tt;

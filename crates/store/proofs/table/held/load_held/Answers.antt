@@ -1,5 +1,7 @@
-use Rattle.store.proofs.Names.{◌≡◌, Err, sym, subst, rules, HasCleanDisk, IsUnchanged, Survives, AsksAll, OnSeen, Rested, all_held_text}
+use Rattle.store.proofs.Names.{◌≡◌, [], Err, sym, subst, rules, HasCleanDisk, IsUnchanged, Survives, AsksAll, OnSeen, Rested, all_held_text}
 use Rattle.sqlite.specs.Held.{state}
+use Rattle.store.specs.Load.{IsCalm}
+use Rattle.store.proofs.OnlyReading.{held_only, calm_read, calm_begun}
 use Rattle.store.proofs.Readings.{all_rests, all_survives}
 use Rattle.store.proofs.Steps.{clean_before}
 use Rattle.store.proofs.Verdicts.{begun_survives, begun_rested, begun_same, begun_judged}
@@ -15,6 +17,7 @@ returns-in_err-rows g c =
       same = search rules;
       rested = λ clean tree asks. all_rests all_held_text tree old new asks {X = Unit {0}} (Err c.in_err-rows.field-0.0) tt (refused.err clean);
       crash = all_survives all_held_text old new refused.survives;
+      calm = calm_read all_held_text held_only {X = Unit {0}} (λ x. []) old new (Err c.in_err-rows.field-0.0) (λ clean. tt) refused.err refused.survives;
       fault = search rules;
       autocommit = search rules;
     }
@@ -34,6 +37,7 @@ returns-in_err-verdict g c =
           let late : HasCleanDisk (s new) = subst (λ k. HasCleanDisk (s k)) (sym same) clean in
           subst (λ k. Rested (s old) (s k)) same (begun_rested g.S.Store old mid tree asks (c.in_ok-rows.ensures.begun (clean_before (s mid) (s new) _ survives late)) (s new) (c.judge_rows.ensures.rested late));
       crash = subst (λ k. Survives (s old) (s k) (λ _. (tree : _) → ¬ AsksAll (s old).now.schema all_held_text tree)) same (begun_survives (s old) (s mid) (s new) c.in_ok-rows.ensures.survives survives);
+      calm = subst (λ k. IsCalm (s old) (s k)) same (calm_begun all_held_text held_only g.S.Store old mid (s new) c.in_ok-rows.ensures.begun c.in_ok-rows.ensures.survives c.judge_rows.ensures.rested survives);
       fault = search rules;
       autocommit = search rules;
     }
@@ -54,6 +58,7 @@ returns g c =
           (begun_same g.S.Store old mid tree asks (begun clean) (s new) c.in_ok-verdict.verdict c.schema.ensures.live (c.in_ok-verdict.ensures.judged (late clean) all_held_text) c.answer.result);
       rested = λ clean tree asks. subst (λ k. Rested (s old) (s k)) same (begun_rested g.S.Store old mid tree asks (begun clean) (s new) (c.judge_rows.ensures.rested (late clean)));
       crash = subst (λ k. Survives (s old) (s k) (λ _. (tree : _) → ¬ AsksAll (s old).now.schema all_held_text tree)) same (begun_survives (s old) (s mid) (s new) c.in_ok-rows.ensures.survives survives);
+      calm = subst (λ k. IsCalm (s old) (s k)) same (calm_begun all_held_text held_only g.S.Store old mid (s new) c.in_ok-rows.ensures.begun c.in_ok-rows.ensures.survives c.judge_rows.ensures.rested survives);
       fault = search rules;
       autocommit = search rules;
     }

@@ -1,6 +1,7 @@
 use Rattle.store.proofs.Names.{ℕ, HasCleanDisk, AsksAll}
 use Rattle.sqlite.specs.Held.{state}
 use Rattle.store.proofs.Keeps.{opened_query, live_query}
+use Rattle.store.proofs.OnlyReading.{calm_read}
 use Rattle.store.proofs.Readings.{all_rows, all_ascend, all_same, all_rests, all_survives}
 use Rattle.store.proofs.table.row.read_all.Goals as goal
 
@@ -17,6 +18,7 @@ returns g c =
       same = same;
       rested = λ clean tree asks. all_rests sql tree old new asks r (same clean tree asks) (c.query_all.ensures.err clean);
       crash = all_survives sql old new c.query_all.ensures.survives;
+      calm = λ only. calm_read sql only (λ v. v.items) old new r c.query_all.ensures.ok c.query_all.ensures.err c.query_all.ensures.survives;
       opened = λ clean. opened_query (λ v. v.items) _ _ old new r (c.query_all.ensures.ok clean) (c.query_all.ensures.err clean);
       live = λ clean. live_query (λ v. v.items) _ _ old new r (c.query_all.ensures.ok clean);
       autocommit = c.query_all.ensures.mode;
