@@ -15,7 +15,7 @@
 //! set to the executed one, and a [`Lister`] reads the set, the filter and the rows. [`open_file`] and [`close_file`] are
 //! their first and their last step. An
 //! [`Observer`] is called with what is read and applied, and may stop it; [`Until`] is one that stops once nothing of a
-//! set of GTIDs is missing. Over a store, [`run`] reads a list of connections that are in memory, one after the other,
+//! set of GTIDs is missing, and [`Recorder`] one that keeps what is reported. Over a store, [`run`] reads a list of connections that are in memory, one after the other,
 //! [`read_stream`] one connection from a reader, and [`follow`] follows a source: it sends all pending output before each
 //! read, until the connection ends.
 //!

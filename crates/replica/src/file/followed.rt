@@ -79,6 +79,7 @@ fn connect_and_follow<
 /// Clauses: as [`in_file`], [`replay`], and:
 /// - `follows`: the same as the headline, of following a source
 /// - `ends`: as `heeded` and `until` of [`replay`]
+/// - `reached`: the second notice is that the source was reached; where it was not, there is none
 pub fn follow_file<
     P: Start,
     T: Duplex + Drop,
