@@ -22,6 +22,8 @@ use Rattle.sqlite.specs.Files.{HoldsDatabase, IsNothing, IsEmpty, image_of, faul
 use Rattle.sqlite.specs.Closing.{HoldsAlone}
 use Rattle.binlog.specs.Filter.{Names}
 use Rattle.store.specs.State.{Content}
+use Rattle.store.specs.Apply.{Rests}
+use Rattle.store.specs.Faults.{IsFailure}
 use Rattle.store.specs.Open.{nothing}
 use Rattle.store.specs.declared.store.Store.{Store}
 use Rattle.store.specs.Store.{Opens}
@@ -96,12 +98,19 @@ IsLeftOver {D} {g} image error left =
     (files : Files D) × AreJustOpened g image files
     × (IsCleanLeft left → FailsToOpenFiles files left error × LeavesFiles files left)
 
--- The database that was found is refused with its reason and left as it is, and so are files that hold none.
+-- A crash leaves what was found in the files.
+abbrev pub LeavesFound : State → State → Type 0
+LeavesFound found s = (trees : Trees) → s.may_leave trees → trees ≡ found.committed.trees
+
+-- The database that was found is left as it is, whatever its tables are, by a crash too unless it failed or memory ran out; if they are
+-- known, it is refused with its reason. Files that hold none are left as they are.
 abbrev pub IsTurnedBack : {D : Type 0} {g : Ghosts D} → Option Names → Image → Unopened D g → Type 0
 IsTurnedBack wanted image (Unopened.NotOpened why) = Unit {0}
 IsTurnedBack wanted image (Unopened.Files error left) = IsLeftOver image error left
 IsTurnedBack {D} {g} wanted image (Unopened.Database cause conn) =
     HasCleanDisk (file_state conn) → (before : Held (FileStore D g)) × HasFound image before
+    × Rests (file_state before) (file_state conn)
+    × (IsFailure cause ⊎ LeavesFound (file_state before) (file_state conn))
     × (IsReady (file_state before) → IsTurned wanted (file_state before) (file_state conn) cause)
 
 -- The files were not opened, for this reason.

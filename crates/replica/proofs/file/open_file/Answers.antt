@@ -1,4 +1,6 @@
-use Rattle.replica.proofs.Names.{inl, refl, HasCleanDisk, file_state, image_at, settled_at, wanted_of, names_for}
+use Rattle.replica.proofs.Names.{◌⊎◌, inl, inr, refl, HasCleanDisk, file_state, image_at, settled_at, wanted_of, names_for}
+use Rattle.store.specs.Faults.{IsFailure}
+use Rattle.replica.specs.File.{LeavesFound}
 use Rattle.replica.proofs.OpeningReads.{reads_left, leaves_left}
 use Rattle.replica.proofs.CutOpenings.{still_hold}
 use Rattle.replica.proofs.file.open_file.Goals as goal
@@ -36,7 +38,20 @@ returns-in-Err-open_for-clause-turned g c =
                 (λ trees may. settled_at c.in-Ok-connect_to.conn.store (λ file. inl refl) trees (reads clean).is_open may) (c.in-Err-open_for.ensures.leaves names content (reads clean)) clean,
           );
       turned = λ clean.
-          (c.in-Ok-connect_to.conn, record { finds = c.in-Ok-connect_to.ensures.found (early clean); opened = c.in-Ok-connect_to.ensures.opened (early clean) }, λ ready. c.in-Err-open_for.ensures.turned clean ready);
+          let opened = (c.in-Ok-connect_to.ensures.opened (early clean)).0 in
+          let left = elim c.in-Err-open_for.ensures.spared as (λ _. IsFailure c.in-Err-open_for.cause ⊎ LeavesFound old new) [
+            | inl failed ↦ inl failed
+            | inr survives ↦ inr (λ trees may. elim (survives.crash clean trees may) [
+              | inl was ↦ settled_at c.in-Ok-connect_to.conn.store (λ file. inl refl) trees opened.is_open was
+              | inr none ↦ absurd none
+            ])
+          ] in (
+            c.in-Ok-connect_to.conn,
+            record { finds = c.in-Ok-connect_to.ensures.found (early clean); opened = c.in-Ok-connect_to.ensures.opened (early clean) },
+            c.in-Err-open_for.ensures.refused clean opened.clean,
+            left,
+            λ ready. c.in-Err-open_for.ensures.turned clean ready,
+          );
     }
 
 pub returns-in-Err-connect_to-clause-turned : goal.returns-in-Err-connect_to-clause-turned
