@@ -162,7 +162,6 @@ pub record Looks {X E : Type 0} (laid : Type 0) (old new : State) (r : Result X 
   pub same : HasCleanDisk new → laid → OnOk r (IsUnchanged old new)
   pub rested : HasCleanDisk new → laid → Rested old new
   pub survives : laid → Survives old new (λ _. ⊥)
-  pub calm : IsCalm old new
   -- A connection that is open afterwards was open before, and one that answered was open.
   pub opened : HasCleanDisk new → WasOpen old new
   pub live : HasCleanDisk new → OnOk r (IsTrue old.is_open)

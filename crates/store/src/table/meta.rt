@@ -11,7 +11,7 @@ ghost use Rattle.std.specs.List.{AllByRecursion};
 ghost use Rattle.store.specs.Layout.{HasMeta};
 ghost use Rattle.store.specs.Rows.{meta_rows, IsMetaRow, is_text};
 ghost use Rattle.store.specs.Judge.{IsMeta, IsOnly, layouts};
-ghost use Rattle.store.specs.Load.{Looks};
+ghost use Rattle.store.specs.Load.{IsCalm, Looks};
 ghost use Rattle.sqlite_value.specs.Order.{column};
 ghost use Rattle.sqlite_value.specs.declared.value.Value.TheVariants.{Int};
 ghost use Rattle.std.specs.FinSet as set;
@@ -68,6 +68,7 @@ pub(crate) fn read_meta<S: Alter>(conn: &mut Connection<S>) -> Result<Meta, Erro
         → IfOk result (IsMeta (meta_rows (state S.Store conn.old).now)) }
     ensures looks { Looks (HasMeta (state S.Store conn.old).now.schema)
         (state S.Store conn.old) (state S.Store conn.new) result }
+    ensures calm { IsCalm (state S.Store conn.old) (state S.Store conn.new) }
 {
     let rows = read_all(conn, ALL)?;
     meta_in(&rows)

@@ -12,12 +12,14 @@ returns-in_err-rows-clause-looks g c = record {
   same = search rules;
   rested = λ clean first. c.read_all.ensures.rested clean (meta_tree (state g.S.Store c.args.conn.now).now.schema) (meta_asks _ first);
   survives = λ first. first_step (state g.S.Store c.args.conn.now) (state g.S.Store c.read_all.new.conn) all_meta_text (meta_tree (state g.S.Store c.args.conn.now).now.schema) (meta_asks _ first) c.read_all.ensures.crash;
-  calm = c.read_all.ensures.calm meta_only;
   opened = c.read_all.ensures.opened;
   live = search rules;
   clean = λ clean. clean_before _ _ _ c.read_all.ensures.crash clean;
   autocommit = c.read_all.ensures.autocommit;
 }
+
+pub returns-in_err-rows-clause-calm : goal.returns-in_err-rows-clause-calm
+returns-in_err-rows-clause-calm g c = c.read_all.ensures.calm meta_only
 
 pub returns-clause-says : goal.returns-clause-says
 returns-clause-says g c clean first =
@@ -28,9 +30,11 @@ returns-clause-looks g c = record {
   same = λ clean first. on_ok c.meta_in.result (c.in_ok-rows.ensures.same clean (meta_tree (state g.S.Store c.args.conn.now).now.schema) (meta_asks _ first));
   rested = λ clean first. c.read_all.ensures.rested clean (meta_tree (state g.S.Store c.args.conn.now).now.schema) (meta_asks _ first);
   survives = λ first. first_step (state g.S.Store c.args.conn.now) (state g.S.Store c.read_all.new.conn) all_meta_text (meta_tree (state g.S.Store c.args.conn.now).now.schema) (meta_asks _ first) c.read_all.ensures.crash;
-  calm = c.read_all.ensures.calm meta_only;
   opened = c.read_all.ensures.opened;
   live = λ clean. on_ok c.meta_in.result (c.in_ok-rows.ensures.live clean);
   clean = λ clean. clean_before _ _ _ c.read_all.ensures.crash clean;
   autocommit = c.read_all.ensures.autocommit;
 }
+
+pub returns-clause-calm : goal.returns-clause-calm
+returns-clause-calm g c = c.read_all.ensures.calm meta_only
