@@ -5,12 +5,15 @@ use Rattle.std.specs.Str.{bytes_eq}
 use Rattle.binlog.proofs.TableSets.{not_read, all_follow}
 use Rattle.gather.specs.Transaction.{insert, delete, update, changed_schema, changed_table}
 use Rattle.store.specs.Open.{nothing, all}
-use Rattle.store.specs.Changes.{IsAdded, with_executed}
+use Rattle.store.specs.Changes.{IsAdded, with_executed, widened}
+use Rattle.store.proofs.MoreNames.{widened_some}
+use Rattle.store.proofs.ExecutedSets.{nothing_new}
+use Rattle.binlog.proofs.TableSets.{name_cmp_total}
 use Rattle.replica.specs.Marks.{is_of_copy, begun_number}
 use Rattle.replica.specs.Clear.{TableClear, IsCleared, IsClearedWhere, IsClearedBy}
-use Rattle.replica.specs.Copies.{HasNothing, HasJust, IsAtSet, HaveNoRows, MayBegin, AreOfCopies, with_marks, end_of_copy}
+use Rattle.replica.specs.Copies.{HasNothing, HasJust, IsAtSet, HaveNoRows, AreOfCopies, was_begun, with_marks, end_of_copy}
 use Rattle.replica.specs.Copied.{AreAdded, AreAdditions, AreCopied, AreNumbered, NoneExecuted, with_all}
-use Rattle.replica.specs.SourceLog.{LogStep, committed, emptied, step_id, MakesStep, Logged, AreLogged, HasPoint, AgreesOn, IsKeptTable, IsKeptTableBeside, HasSourceRows, HasSourceRowsBeside, read_changes, IsReadOf, AreFirst, AreOfLog, IsEmptiedIn, IsCopyAt}
+use Rattle.replica.specs.SourceLog.{LogStep, committed, emptied, step_id, MakesStep, Logged, AreLogged, HasPoint, AgreesOn, IsKeptTable, IsKeptTableBeside, HasSourceRows, HasSourceRowsBeside, HasSourceRowsWithout, read_changes, IsReadOf, AreFirst, AreOfLog, IsEmptiedIn, IsCopyAt}
 use Rattle.replica.proofs.CopyLoads.{inserts as inserts_rows, loaded_rows, stays}
 use Rattle.replica.proofs.Transactions.{no_other, itself, still}
 
@@ -446,16 +449,16 @@ copied_rows names tables old new ids rows empty added was copy others schema tab
 
 -- a copy that may begin, and is loaded whole
 pub copy_loaded : (names tables : Names) (log : List Logged) (old new : Content) (ids : Ids) (first : Id) (ds : List DeliveryValue) (rows : List TableRow) (number n : ℕ) → AreLogged nothing log → HasSourceRowsBeside tables names log old
-    → HasPoint (IsCopyAt names tables old ids rows) nothing log → MayBegin names old ids first tables → is_of_copy first.0 ≡ true → NoneExecuted first.0 number (adopted old (with_marks ids first)).executed → number + length ds ≤ begun_number
+    → HasPoint (IsCopyAt names tables old ids rows) nothing log → IsAtSet old.executed ids → HaveNoRows tables old → is_of_copy first.0 ≡ true → NoneExecuted first.0 number (adopted old (with_marks ids first)).executed → number + length ds ≤ begun_number
     → AreNumbered first.0 number ds → AreCopied names ds rows → AppliesAll names (adopted old (with_marks ids first)) (ds ++ end_of_copy first.0 ∷ []) n new → HasSourceRows names log new
-copy_loaded names tables log old new ids first ds rows number n logged at copy may of_copy none few numbered copied applies =
+copy_loaded names tables log old new ids first ds rows number n logged at copy at_set empty of_copy none few numbered copied applies =
     let loaded = loaded_rows names first.0 number (adopted old (with_marks ids first)) ds rows n new none few numbered copied applies in
     let all = ds ++ end_of_copy first.0 ∷ [] in
     let begun = set.union old.executed (with_marks ids first) in
-    let just : HasJust new.executed ids = copy_just old.executed ids first of_copy may.at new.executed
+    let just : HasJust new.executed ids = copy_just old.executed ids first of_copy at_set new.executed
     (λ q has. ap (λ s. set.contains s q) loaded.2 ∙ still_all begun all q has)
     (λ q has. one_of_all first.0 begun all q (all_numbered first.0 number ds numbered) (sym (ap (λ s. set.contains s q) loaded.2) ∙ has)) in
-    loaded_at names tables (IsKeptTable names) old new ids rows just (copied_rows names tables old new ids rows may.empty loaded.1) log logged may.at at copy
+    loaded_at names tables (IsKeptTable names) old new ids rows just (copied_rows names tables old new ids rows empty loaded.1) log logged at_set at copy
 
 -- ---- A copy that is loaded in part.
 
@@ -506,11 +509,11 @@ applied_of names source old (d ∷ ds) n new q of (inl t) has = elim (applied_of
 applied_of names source old (d ∷ ds) n new q of (inr t) has = applied_of names source old ds n new q of.1 t.1 has
 
 pub copy_loading : (names tables : Names) (log : List Logged) (old mid : Content) (ids : Ids) (first : Id) (part more : List DeliveryValue) (rows : List TableRow) (number n : ℕ) → AreLogged nothing log → HasSourceRowsBeside tables names log old
-    → HasPoint (IsCopyAt names tables old ids rows) nothing log → MayBegin names old ids first tables → is_of_copy first.0 ≡ true
+    → HasPoint (IsCopyAt names tables old ids rows) nothing log → IsAtSet old.executed ids → is_of_copy first.0 ≡ true
     → AreNumbered first.0 number (part ++ more) → AreCopied names (part ++ more) rows → AppliesAll names (adopted old (with_marks ids first)) part n mid → HasSourceRowsBeside tables names log mid
-copy_loading names tables log old mid ids first part more rows number n logged at copy may of_copy numbered copied applies =
+copy_loading names tables log old mid ids first part more rows number n logged at copy at_set of_copy numbered copied applies =
     let begun = set.union old.executed (with_marks ids first) in
-    let just : HasJust mid.executed ids = copy_just old.executed ids first of_copy may.at mid.executed
+    let just : HasJust mid.executed ids = copy_just old.executed ids first of_copy at_set mid.executed
     (λ q has. stays names (adopted old (with_marks ids first)) part n mid applies q has)
     (λ q has. applied_of names first.0 (adopted old (with_marks ids first)) part n mid q (part_of first.0 number part more numbered) applies has) in
     loaded_at names tables (IsKeptTableBeside tables names) old mid ids rows just
@@ -518,7 +521,82 @@ copy_loading names tables log old mid ids first part more rows number n logged a
     part_beside names part more rows (row_of schema table cells) (adopted old (with_marks ids first)) n mid copied
     (not_among rows (row_of schema table cells) nothing.rows c.rows_are.copied c.rows_are.added (c.rows_are.alone schema table cells of.1)).0 applies
     ∙ others schema table cells of)
-    log logged may.at at copy
+    log logged at_set at copy
+
+-- ---- Tables that are admitted.
+
+module _ (names more : Names) (some : set.is_subset names set.empty ≡ false) where
+  -- a table that is kept then was kept before, or is one of the names
+  one_of_both : (schema table : List ℕ) → admits (widened names more) schema table ≡ true → (admits names schema table ≡ true) ⊎ (set.contains more (schema, table) ≡ true)
+  one_of_both schema table kept = elim (or_cases (set.is_subset (set.union names more) set.empty) (set.contains (set.union names more) (schema, table)) (ap (λ n. admits n schema table) (sym (widened_some names more some)) ∙ kept)) [
+    | inl none ↦ absurd (false≢true (sym some ∙ within none))
+    | inr has ↦ elim (or_cases (set.contains names (schema, table)) (set.contains more (schema, table)) (sym (set.contains-union name_cmp_total names more (schema, table)) ∙ has)) [
+      | inl was ↦ inl (or_right (set.is_subset names set.empty) (set.contains names (schema, table)) was)
+      | inr new ↦ inr new
+    ]
+  ]
+    where
+      within : set.is_subset (set.union names more) set.empty ≡ true → set.is_subset names set.empty ≡ true
+      within none = set.contains-is_subset name_cmp_total names set.empty (λ q has.
+          set.is_subset-contains name_cmp_total (set.union names more) set.empty none q (set.contains-union name_cmp_total names more q ∙ ap (λ b. b || set.contains more q) has))
+
+  none_of_either : (schema table : List ℕ) (cells : List CellValue) (a b : Bag) → a (row_of schema table cells) ≡ 0 → b (row_of schema table cells) ≡ 0 → a (row_of schema table cells) ≡ b (row_of schema table cells)
+  none_of_either schema table cells a b one other = one ∙ sym other
+
+  pub admitted_alone : (log : List Logged) (old : Content) → HasSourceRowsWithout more names log old → HasSourceRows (widened names more) log old
+  admitted_alone log old has =
+      at_each (λ was. AgreesOn (IsKeptTable names) old was × HaveNoRows more was) (AgreesOn (IsKeptTable (widened names more)) old) log nothing (λ was at. record {
+        just = at.0.just;
+        rows = λ schema table cells kept. elim (one_of_both schema table kept) [
+          | inl of ↦ at.0.rows schema table cells of
+          | inr new ↦ none_of_either schema table cells old.rows was.rows (has.none schema table cells new) (at.1 schema table cells new)
+        ];
+      }) has.kept
+
+  pub admitted_beside : (tables : Names) (log : List Logged) (old : Content) → HasSourceRowsWithout (set.difference more tables) names log old → HasSourceRowsBeside tables (widened names more) log old
+  admitted_beside tables log old has =
+      at_each (λ was. AgreesOn (IsKeptTable names) old was × HaveNoRows (set.difference more tables) was) (AgreesOn (IsKeptTableBeside tables (widened names more)) old) log nothing (λ was at. record {
+        just = at.0.just;
+        rows = λ schema table cells kept. elim (one_of_both schema table kept.0) [
+          | inl of ↦ at.0.rows schema table cells of
+          | inr new ↦
+              let left = set.contains-difference name_cmp_total more tables (schema, table) ∙ beside _ _ new kept.1 in
+              none_of_either schema table cells old.rows was.rows (has.none schema table cells left) (at.1 schema table cells left)
+        ];
+      }) has.kept
+
+-- the other tables have their rows once a copy is begun
+pub admitted_begun : (names tables : Names) (log : List Logged) (old : Content) (ids : Ids) (first : Id) (rows : List TableRow) → AreLogged nothing log → HasSourceRowsBeside tables names log old
+    → HasPoint (IsCopyAt names tables old ids rows) nothing log → IsAtSet old.executed ids → is_of_copy first.0 ≡ true → HasSourceRowsBeside tables names log (adopted old (with_marks ids first))
+admitted_begun names tables log old ids first rows logged at copy at_set of_copy =
+    let begun = adopted old (with_marks ids first) in
+    let just : HasJust begun.executed ids = copy_just old.executed ids first of_copy at_set begun.executed (λ q has. has) (λ q has. inr has) in
+    loaded_at names tables (IsKeptTableBeside tables names) old begun ids rows just (λ was c others schema table cells of. others schema table cells of) log logged at_set at copy
+
+-- what a copy begins with is executed then
+with_in : (executed ids : Ids) (first : Id) → (set.is_subset ids (set.union executed (with_marks ids first)) ≡ true) × (set.contains (set.union executed (with_marks ids first)) first ≡ true)
+with_in executed ids first = (
+  set.contains-is_subset id_cmp_total ids (set.union executed (with_marks ids first)) (λ q has. in_both q (still (set.insert ids first) (first.0, begun_number) q (still ids first q has))),
+  in_both first (still (set.insert ids first) (first.0, begun_number) first (itself ids first)),
+)
+  where
+    in_both : (q : Id) → set.contains (with_marks ids first) q ≡ true → set.contains (set.union executed (with_marks ids first)) q ≡ true
+    in_both q has = set.contains-union id_cmp_total executed (with_marks ids first) q ∙ or_right (set.contains executed q) (set.contains (with_marks ids first) q) has
+
+both_true : (a b : Bool) → a ≡ true → b ≡ true → (a && b) ≡ true
+both_true true b is also = also
+both_true false b is also = absurd (false≢true is)
+
+pub found_begun : (old : Content) (ids : Ids) (first : Id)
+    → (was_begun (adopted old (with_marks ids first)).executed ids first ≡ true) × (adopted (adopted old (with_marks ids first)) (with_marks ids first) ≡ adopted old (with_marks ids first))
+found_begun old ids first =
+    let has = with_in old.executed ids first in
+    let begun = adopted old (with_marks ids first) in (
+      both_true _ _ has.0 has.1,
+      sym (nothing_new begun begun.executed (with_marks ids first) refl
+          (set.contains-is_subset id_cmp_total (with_marks ids first) begun.executed (λ q it.
+          set.contains-union id_cmp_total old.executed (with_marks ids first) q ∙ or_right (set.contains old.executed q) (set.contains (with_marks ids first) q) it))),
+    )
 
 -- ---- A copy that is given up.
 

@@ -11,7 +11,7 @@ use Rattle.store.specs.Open.{nothing, all}
 use Rattle.store.specs.Changes.{HasOutcome, done}
 use Rattle.replica.specs.Marks.{is_of_copy}
 use Rattle.replica.specs.Clear.{TableClear, IsCleared}
-use Rattle.replica.specs.Copies.{HasNothing, HasJust}
+use Rattle.replica.specs.Copies.{HasNothing, HasJust, HaveNoRows}
 use Rattle.replica.specs.Copied.{AreAdded}
 
 -- ---- The log.
@@ -71,6 +71,11 @@ HasSourceRows names log content = HasPoint (AgreesOn (IsKeptTable names) content
 -- The same but for these tables, of which a copy is loaded.
 abbrev pub HasSourceRowsBeside : Names → Names → List Logged → Content → Type 0
 HasSourceRowsBeside tables names log content = HasPoint (AgreesOn (IsKeptTableBeside tables names) content) nothing log
+
+-- Each table that is kept has them, and of these tables the source had no row then, nor has the database one.
+pub record HasSourceRowsWithout (without names : Names) (log : List Logged) (content : Content) : Type 0 where
+  pub kept : HasPoint (λ was. AgreesOn (IsKeptTable names) content was × HaveNoRows without was) nothing log
+  pub none : HaveNoRows without content
 
 -- ---- What comes from the source.
 

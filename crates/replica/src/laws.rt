@@ -17,12 +17,12 @@ ghost use Rattle.gather.specs.Transaction.{DeliveryValue, change_of};
 ghost use Rattle.scripted_source.specs.Script.{PartValue, ScriptValue};
 ghost use Rattle.scripted_source.specs.Source.{is_once};
 ghost use Rattle.store.specs.State.{Content, TableRow, row_of};
-ghost use Rattle.store.specs.Changes.{HasOutcome, adopted, done, is_admitted};
+ghost use Rattle.store.specs.Changes.{HasOutcome, adopted, done, is_admitted, widened};
 ghost use Rattle.store.specs.Open.{nothing};
 ghost use Rattle.replica.specs.Clear.{TableClear, IsClearedAt, IsClearedBy};
-ghost use Rattle.replica.specs.SourceLog.{Logged, IsWholeLog, HasPoint, HasSourceRows, HasSourceRowsBeside, AreOfLog, IsEmptiedIn, IsCopyAt};
+ghost use Rattle.replica.specs.SourceLog.{Logged, IsWholeLog, HasPoint, HasSourceRows, HasSourceRowsBeside, HasSourceRowsWithout, AreOfLog, IsEmptiedIn, IsCopyAt};
 ghost use Rattle.replica.specs.Marks.{begun_number, is_of_copy};
-ghost use Rattle.replica.specs.Copies.{AreOfCopies, MayBegin, with_marks, end_of_copy};
+ghost use Rattle.replica.specs.Copies.{AreOfCopies, IsAtSet, HaveNoRows, was_begun, with_marks, end_of_copy};
 ghost use Rattle.replica.specs.Copied.{AreAdded, AreCopied, AreNumbered, AreOutside, NoneExecuted, with_all};
 ghost use Rattle.store.specs.Store.{HoldsAs, database, names_of};
 ghost use Rattle.store.specs.Entering.{names_for};
@@ -363,7 +363,7 @@ pub fn at_source()
         (first : Id) (ds : List DeliveryValue) (rows : List TableRow) (number n : ℕ)
         → IsWholeLog log → HasSourceRowsBeside tables names log old
         → HasPoint (IsCopyAt names tables old ids rows) nothing log
-        → MayBegin names old ids first tables → is_of_copy first.0 ≡ true
+        → IsAtSet old.executed ids → HaveNoRows tables old → is_of_copy first.0 ≡ true
         → NoneExecuted first.0 number (adopted old (with_marks ids first)).executed
         → number + length ds ≤ begun_number → AreNumbered first.0 number ds
         → AreCopied names ds rows → AppliesAll names (adopted old (with_marks ids first))
@@ -373,7 +373,7 @@ pub fn at_source()
         (first : Id) (part more : List DeliveryValue) (rows : List TableRow) (number n : ℕ)
         → IsWholeLog log → HasSourceRowsBeside tables names log old
         → HasPoint (IsCopyAt names tables old ids rows) nothing log
-        → MayBegin names old ids first tables → is_of_copy first.0 ≡ true
+        → IsAtSet old.executed ids → is_of_copy first.0 ≡ true
         → AreNumbered first.0 number (part ++ more) → AreCopied names (part ++ more) rows
         → AppliesAll names (adopted old (with_marks ids first)) part n mid
         → HasSourceRowsBeside tables names log mid }
@@ -410,6 +410,31 @@ pub fn at_source()
         → HasSourceRows names log a → HasSourceRows names log b → a.executed ≡ b.executed
         → (schema table : List ℕ) (cells : List CellValue) → admits names schema table ≡ true
         → a.rows (row_of schema table cells) ≡ b.rows (row_of schema table cells) }
+{}
+
+/// What becomes of that where a database is to follow more tables ([`admit_file`](crate::admit_file), `AdmitsTo`): `more` are the names
+/// that its filter gets, which are those of the tables where rows are kept, and otherwise names that no table of a server can have.
+pub fn admitted_at_source()
+    // Tables of which the log had no row at the executed set.
+    ensures alone { (names more : Names) (log : List Logged) (old : Content)
+        → set.is_subset names set.empty ≡ false → HasSourceRowsWithout more names log old
+        → HasSourceRows (widened names more) log old }
+    // Tables of which a copy is loaded then: all others have their rows, so that what `at_source` says of a copy goes on from here.
+    ensures with_copy { (names more tables : Names) (log : List Logged) (old : Content)
+        → set.is_subset names set.empty ≡ false
+        → HasSourceRowsWithout (set.difference more tables) names log old
+        → HasSourceRowsBeside tables (widened names more) log old }
+    // They have them too once the copy is begun.
+    ensures begun { (names tables : Names) (log : List Logged) (old : Content) (ids : Ids) (first : Id)
+        (rows : List TableRow) → IsWholeLog log → HasSourceRowsBeside tables names log old
+        → HasPoint (IsCopyAt names tables old ids rows) nothing log → IsAtSet old.executed ids
+        → is_of_copy first.0 ≡ true
+        → HasSourceRowsBeside tables names log (adopted old (with_marks ids first)) }
+    // It is found to be begun, and to begin it once more changes nothing.
+    ensures found { (old : Content) (ids : Ids) (first : Id)
+        → (was_begun (adopted old (with_marks ids first)).executed ids first ≡ true)
+        × (adopted (adopted old (with_marks ids first)) (with_marks ids first)
+        ≡ adopted old (with_marks ids first)) }
 {}
 
 /// What a replay of captured connections ([`replay`](crate::replay), clause `replays`) leaves in files that had no database, and what is

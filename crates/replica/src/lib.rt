@@ -40,7 +40,7 @@ pub use change::changing::ChangeEnd;
 pub use change::clearing::ClearEnd;
 pub use change::loading::{FirstCopy, LoadEnd, QualifiedName, Unloadable};
 pub use change::marks::{ended_mark, given_up_mark, is_mark, unfinished_copy};
-pub use file::admitting::{Admission, AdmitFault, admit_file};
+pub use file::admitting::{Admission, AdmitFault, CopyBegin, admit_file};
 pub use file::adopting::{AdoptFault, Adopting};
 pub use file::changed::{ChangedFile, change_file};
 pub use file::cleared::{ClearedFile, clear_file};

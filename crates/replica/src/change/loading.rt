@@ -118,7 +118,7 @@ pub(crate) fn has_just(executed: &GtidSet, gtids: &GtidSet) -> Result<bool, Gtid
 }
 
 /// Whether nothing is executed, or just the set. The only error is `Memory`.
-fn is_at(alloc: Global, executed: &GtidSet, gtids: &GtidSet) -> Result<bool, GtidFault>
+pub(crate) fn is_at(alloc: Global, executed: &GtidSet, gtids: &GtidSet) -> Result<bool, GtidFault>
     ensures { IfOk result (λ at. (at ≡ true → IsAtSet executed.now gtids.now)
         × (at ≡ false → ¬ IsAtSet executed.now gtids.now)) }
 {
@@ -233,7 +233,7 @@ impl Visitor for NoRows<'_> {
 }
 
 /// Whether a copy was begun, by its set and its first GTID.
-fn was_begun(executed: &GtidSet, gtids: &GtidSet, first: Gtid) -> bool
+pub(crate) fn was_begun(executed: &GtidSet, gtids: &GtidSet, first: Gtid) -> bool
     ensures { result ≡ was_begun executed.now gtids.now (id first) }
 {
     gtids.is_subset(executed) && executed.contains(first)
@@ -285,14 +285,14 @@ fn may_load<S: Alter>(
     }
 }
 
-/// What a copy adds to the executed set when it begins. The only error is `Memory`.
-fn set_of(copy: &FirstCopy<'_>) -> Result<GtidSet, GtidFault>
-    ensures { IfOk result (λ ids. ids ≡ with_marks copy.now.gtids.now (id copy.now.first)) }
+/// What a copy with this set and this first GTID adds to the executed set when it begins. The only error is `Memory`.
+pub(crate) fn set_of(gtids: &GtidSet, first: Gtid) -> Result<GtidSet, GtidFault>
+    ensures { IfOk result (λ ids. ids ≡ with_marks gtids.now (id first)) }
 {
-    let mut gtids = copy.gtids.copy()?;
-    gtids.insert(copy.first)?;
-    gtids.insert(begun_mark(copy.first.source))?;
-    Ok(gtids)
+    let mut ids = gtids.copy()?;
+    ids.insert(first)?;
+    ids.insert(begun_mark(first.source))?;
+    Ok(ids)
 }
 
 /// Loads a copy, if that may be done: adopts its set with its marks, and applies the transactions that are given as [`change`]
@@ -323,7 +323,7 @@ pub(crate) fn load<S: Alter, I: Deliveries, W: Observer>(
     }
     match may_load(alloc, store, copy.gtids, copy.first, copy.tables) {
         Ok(()) => {
-            let Ok(gtids) = set_of(copy) else {
+            let Ok(gtids) = set_of(copy.gtids, copy.first) else {
                 return (
                     0,
                     LoadEnd::Changed(ChangeEnd::NotAdopted(StoreFault::Memory)),

@@ -5,7 +5,7 @@ use Rattle.replica.proofs.file.admitting.admit_file.Goals as goal
 
 pub returns-clause-admits : goal.returns-clause-admits
 returns-clause-admits g c names content files =
-    admits_in _ names content c.in_ok-store.store c.admit-done.new.store c.args.ask.tables.now c.args.ask.unkept.now c.admit-done.result c.close_file-closed.result
+    admits_in _ names content c.in_ok-store.store c.admit-done.new.store c.args.ask.tables.now c.args.ask.unkept.now c.args.ask.copy c.admit-done.result c.close_file-closed.result
     (λ clean. let o = c.in_ok-store.ensures.opens (c.admit-done.ensures.clean clean) names content files in (o.0, o.1)) (λ clean holds. c.admit-done.ensures.admits clean content holds)
     c.close_file-closed.ensures.copied c.close_file-closed.ensures.err
 
