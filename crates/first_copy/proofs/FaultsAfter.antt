@@ -6,7 +6,7 @@ use Rattle.std.specs.Io.KnownBytes.{Keeps}
 use Rattle.std.specs.Io.BufRead.{take_through}
 use Rattle.std.proofs.lemmas.Bool.{eqb-true}
 use Rattle.first_copy.specs.CopySteps.{IsCollected}
-use Rattle.first_copy.specs.CopyFaults.{line_after, is_no_newline, IsFaultAt, IsFaultOfCopy, copied_fault, IsFillFault, IsReaderFault}
+use Rattle.first_copy.specs.CopyFaults.{line_after, is_no_newline, IsFaultAt, IsFaultOfCopy, copied_fault, IsFillFault, IsReaderFault, IsAfterRows, OnTooMany, IsOutOfRows}
 use Rattle.first_copy.specs.declared.fault.RowFault.TheVariants as row
 use Rattle.first_copy.specs.declared.copy_fault.CopyFault.{CopyFault}
 use Rattle.first_copy.specs.declared.copy_fault.CopyFault.TheVariants.{Cut, Count, Trailing, Reader, TooMany, Memory}
@@ -87,6 +87,33 @@ pub trailed : (tables : List DescribedTable) (rows number said : ℕ) (line old 
 trailed tables rows number said line old new None is same end none some read = tt
 trailed tables rows number said line old new (Some []) is same end none some read = absurd (omega (arith, some, ap length read, ap length ((λ i. none i ++ take_through 10 []))))
 trailed tables rows number said line old new (Some (y ∷ ys)) is same end none some read = (is, (line, y ∷ ys, refl, subst (λ (n : ℕ). IsEndLine n line) same end, omega arith))
+
+-- ---- That no number is left.
+
+pub never_full : (fault : CopyFault) (P : Type 0) → OnTooMany fault ⊥ → OnTooMany fault P
+never_full TooMany P none = absurd none
+never_full _ P none = tt
+
+pub full_then : (fault : CopyFault) (P Q : Type 0) → (P → Q) → OnTooMany fault P → OnTooMany fault Q
+full_then TooMany P Q step holds = step holds
+full_then _ P Q step holds = tt
+
+pub read_other : (fault : CopyFault) (P : Type 0) → IsReaderFault fault → OnTooMany fault P
+read_other TooMany P wrong = absurd wrong
+read_other _ P wrong = tt
+
+pub row_other : (line : ℕ) (fault : RowFault) (P : Type 0) → OnTooMany (copied_fault line fault) P
+row_other line row.Memory P = tt
+row_other line _ P = tt
+
+pub out_of_rows : (tables : List DescribedTable) (rows mid_rows : ℕ) (text mid_text : Option (List ℕ)) (hasher mid_hasher : Sha1) (size : ℕ) (changes : List ChangeValue) →
+    IsGathered tables rows mid_rows text mid_text hasher mid_hasher size changes → mid_rows ≡ 2 ^ 64 - 1 → IsOutOfRows tables rows mid_rows text
+out_of_rows tables rows mid_rows text mid_text hasher mid_hasher size changes so_far last = record { all_numbered = last; taken = by text mid_text so_far.took }
+  where
+    by : (a b : Option (List ℕ)) → Consumes a b so_far.lines → IfSome a (λ bytes. (rest : List ℕ) × IsAfterRows tables rows bytes mid_rows rest)
+    by None b took = tt
+    by (Some x) None took = absurd took
+    by (Some x) (Some y) took = (y, record { changes = changes; lines = so_far.lines; are = so_far.are; text_is = took; all_is = so_far.rows_are })
 
 -- A fault after nothing was collected.
 pub fault_then : (tables : List DescribedTable) (rows mid_rows : ℕ) (text mid_text : Option (List ℕ)) (hasher mid_hasher : Sha1) (held : List ℕ) (changes : List ChangeValue) (end : Option ℕ) (fault : CopyFault) →

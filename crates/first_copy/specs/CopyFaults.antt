@@ -1,5 +1,5 @@
 -- What is wrong with a text that is due to be the lines of rows and the line at the end.
-use Rattle.std.specs.Prelude.{◌≡◌, ◌≢◌, ℕ, ◌+◌, ◌-◌, ◌^◌, ◌<◌, ◌==◌, min, not, Bool, List, ◌++◌, length, Option, IfSome}
+use Rattle.std.specs.Prelude.{◌≡◌, ◌≢◌, ◌⊎◌, ℕ, ◌+◌, ◌-◌, ◌^◌, ◌<◌, ◌≤◌, ◌==◌, min, not, Bool, List, ◌++◌, length, Option, IfSome}
 use Rattle.columns.specs.Word.{Are}
 use Rattle.columns.specs.declared.table.DescribedTable.{DescribedTable}
 use Rattle.gather.specs.Transaction.{ChangeValue}
@@ -64,6 +64,20 @@ pub record IsFaultOfCopy (tables : List DescribedTable) (rows : ℕ) (text : Lis
 
 abbrev pub IsKnownFault : List DescribedTable → ℕ → Option (List ℕ) → CopyFault → Type 0
 IsKnownFault tables rows text fault = IfSome text (λ bytes. IsFaultOfCopy tables rows bytes fault)
+
+-- This holds if the fault is that no number is left.
+abbrev pub OnTooMany : CopyFault → Type 0 → Type 0
+OnTooMany TooMany P = P
+OnTooMany _ P = Unit {0}
+
+-- No number is left for one more row: so many were given, with those that were taken of the text now.
+pub record IsOutOfRows (tables : List DescribedTable) (rows new_rows : ℕ) (text : Option (List ℕ)) : Type 0 where
+  pub all_numbered : new_rows ≡ 2 ^ 64 - 1
+  pub taken : IfSome text (λ bytes. (rest : List ℕ) × IsAfterRows tables rows bytes new_rows rest)
+
+-- No number is left for one more transaction, or none for one more row.
+abbrev pub IsOutOfNumbers : List DescribedTable → ℕ → ℕ → ℕ → Option (List ℕ) → Type 0
+IsOutOfNumbers tables given rows new_rows text = (2 ^ 63 - 2 ≤ given) ⊎ IsOutOfRows tables rows new_rows text
 
 -- ---- Private.
 

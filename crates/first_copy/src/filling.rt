@@ -1,7 +1,7 @@
 //! The next line of a reader.
 
 ghost use Rattle.std.specs.Prelude.{◌≡◌, ◌<◌, ◌++◌, ◌∷◌, [], ℕ, List, length, IfSome, IfNone, IfErr, OnOk};
-ghost use Rattle.first_copy.specs.CopyFaults.{IsFillFault, IsReaderFault};
+ghost use Rattle.first_copy.specs.CopyFaults.{IsFillFault, IsReaderFault, OnTooMany};
 ghost use Rattle.std.specs.Io.KnownBytes.{prepend_known, Keeps};
 
 use crate::copy_fault::CopyFault;
@@ -20,6 +20,7 @@ pub(crate) fn fill<R: BufRead>(
     ensures fault { IfErr result (λ fault. IfSome
         (prepend_known line.old.items (R.Read.remaining reader.old))
         (λ text. IsFillFault number text fault)) }
+    ensures other { IfErr result (λ fault. OnTooMany fault ⊥) }
 {
     if line.len() > 0 {
         return Ok(());

@@ -1,6 +1,6 @@
 //! A loader of a first copy.
 
-ghost use Rattle.std.specs.Prelude.{◌≡◌, ◌+◌, IfSome};
+ghost use Rattle.std.specs.Prelude.{◌≡◌, ◌≤◌, ◌+◌, ◌-◌, ◌^◌, IfSome, IfNone};
 ghost use Rattle.first_copy.specs.CopyFaults.{copied_fault};
 
 use crate::copy_fault::CopyFault;
@@ -41,12 +41,12 @@ pub struct Loader<R> {
 }
 
 impl<R: BufRead> Loader<R> {
-    ghost use Rattle.std.specs.Prelude.{◌≡◌, ◌+◌, ℕ, List, [], true, false, None, IfSome, IfNone, IfOk, IfErr, OnOk, OnErr, IsErrOf};
+    ghost use Rattle.std.specs.Prelude.{◌≡◌, ◌≤◌, ◌+◌, ◌-◌, ◌^◌, ℕ, List, [], true, false, None, IfSome, IfNone, IfOk, IfErr, OnOk, OnErr, IsErrOf};
     ghost use Rattle.std.specs.Io.KnownBytes.{prepend_known, Keeps};
     ghost use Rattle.sha1.specs.Sha1.{Holds, sha1};
     ghost use Rattle.gather.specs.View.{delivery_value};
     ghost use Rattle.first_copy.specs.CopyLines.{IsEndLine};
-    ghost use Rattle.first_copy.specs.CopyFaults.{IsKnownFault};
+    ghost use Rattle.first_copy.specs.CopyFaults.{IsKnownFault, OnTooMany, IsOutOfRows, IsOutOfNumbers};
     ghost use Rattle.first_copy.specs.CopySteps.{IsCollected, IsGiven, IsFinished};
 
     /// A loader of the rows of these tables, from the lines that follow the two lines at the head, whose transactions have
@@ -110,6 +110,9 @@ impl<R: BufRead> Loader<R> {
         ensures fault { IfErr result (IsKnownFault self.old.taker.description.value.tables.items
             self.old.rows (prepend_known self.old.line.items
             (R.Read.remaining self.old.reader))) }
+        ensures too_many { IfErr result (λ fault. OnTooMany fault
+            (IsOutOfRows self.old.taker.description.value.tables.items self.old.rows self.new.rows
+            (prepend_known self.old.line.items (R.Read.remaining self.old.reader)))) }
         ensures kept { (self.new.taker.description ≡ self.old.taker.description)
             × (self.new.source ≡ self.old.source) × (self.new.given ≡ self.old.given)
             × (self.new.failed ≡ self.old.failed) × (self.new.ended ≡ self.old.ended) }
@@ -143,6 +146,7 @@ impl<R: BufRead> Loader<R> {
             × (d.gtid.number ≡ self.old.given + 1) × (self.new.given ≡ d.gtid.number)) }
         ensures kept { self.new ≡ record self.old { given = self.new.given } }
         ensures err { IfErr result (λ fault. fault ≡ CopyFault.TooMany) }
+        ensures too_many { OnErr result (2 ^ 63 - 2 ≤ self.old.given) }
     {
         let Some(gtid) = next_gtid(self.source, self.given) else {
             return Err(CopyFault::TooMany);
@@ -162,6 +166,7 @@ impl<R: BufRead> Loader<R> {
         ensures fault { IfErr result (IsKnownFault self.old.taker.description.value.tables.items
             self.old.rows (prepend_known self.old.line.items
             (R.Read.remaining self.old.reader))) }
+        ensures other { IfErr result (λ fault. OnTooMany fault ⊥) }
         ensures kept { (self.new.taker.description ≡ self.old.taker.description)
             × (self.new.source ≡ self.old.source) × (self.new.failed ≡ self.old.failed) }
     {
@@ -203,6 +208,10 @@ impl<R: BufRead> Loader<R> {
         ensures fault { IfErr result (IsKnownFault self.old.taker.description.value.tables.items
             self.old.rows (prepend_known self.old.line.items
             (R.Read.remaining self.old.reader))) }
+        ensures too_many { IfErr result (λ fault. OnTooMany fault
+            (IsOutOfNumbers self.old.taker.description.value.tables.items self.old.given
+            self.old.rows self.new.rows
+            (prepend_known self.old.line.items (R.Read.remaining self.old.reader)))) }
         ensures kept { (self.new.taker.description ≡ self.old.taker.description)
             × (self.new.source ≡ self.old.source) × (self.new.failed ≡ self.old.failed) }
     {
@@ -229,6 +238,7 @@ impl<R: BufRead> Loader<R> {
     ///   the rows that were given, and nothing follows it
     /// - `fault`, `failed`, `goes_on`, `again`, `kept`: a fault is that of a line, by its number; after an error each
     ///   call fails
+    /// - `too_many`: `TooMany` only where no number is left, for a GTID or a row
     pub fn next(&mut self) -> Result<Option<Delivery>, CopyFault>
         ensures given { IfOk result (λ found. IfSome found (λ d.
             IsGiven self.old.taker.description.value.tables.items self.old.source self.old.given
@@ -248,6 +258,10 @@ impl<R: BufRead> Loader<R> {
             IfErr result (IsKnownFault self.old.taker.description.value.tables.items
             self.old.rows (prepend_known self.old.line.items
             (R.Read.remaining self.old.reader))) }
+        ensures too_many { IfErr result (λ fault. OnTooMany fault
+            (IsOutOfNumbers self.old.taker.description.value.tables.items self.old.given
+            self.old.rows self.new.rows
+            (prepend_known self.old.line.items (R.Read.remaining self.old.reader)))) }
         ensures failed { OnErr result (self.new.failed ≡ true) }
         ensures goes_on { OnOk result (self.new.failed ≡ false) }
         ensures again { self.old.failed ≡ true → IsErrOf result CopyFault.Failed }
@@ -269,7 +283,8 @@ impl<R: BufRead> Loader<R> {
 
 /// The GTID of a source after so many.
 fn next_gtid(source: [u8; 16], given: u64) -> Option<Gtid>
-    ensures { IfSome result (λ gtid. (gtid.source ≡ source) × (gtid.number ≡ given + 1)) }
+    ensures some { IfSome result (λ gtid. (gtid.source ≡ source) × (gtid.number ≡ given + 1)) }
+    ensures none { IfNone result (2 ^ 63 - 2 ≤ given) }
 {
     let number = given.checked_add(1)?;
     let gtid = Gtid::new(source, number)?;

@@ -4,7 +4,7 @@ use Rattle.std.specs.declared.rc.Rc.{Rc}
 use Rattle.std.proofs.Common.{Global}
 use Rattle.columns.specs.declared.description.Description.{Description}
 use Rattle.first_copy.specs.CopySteps.{IsLineTaken}
-use Rattle.first_copy.proofs.FaultsAfter.{known_after, if_more, filled_fault, row_after, too_many}
+use Rattle.first_copy.proofs.FaultsAfter.{known_after, if_more, filled_fault, row_after, too_many, never_full, row_other, out_of_rows}
 use Rattle.first_copy.proofs.RowLines.{next_line}
 use Rattle.first_copy.proofs.loader.Loader.collect.Goals as goal
 
@@ -51,3 +51,15 @@ returns-in-Err-clause-fault g c =
 
 pub returns-in_default-checked_add-clause-fault : goal.returns-in_default-checked_add-clause-fault
 returns-in_default-checked_add-clause-fault g c = too_many c.args.self.now.taker.description.value.tables.items c.args.self.now.rows (prepend_known c.args.self.now.line.items (g.R.Read.remaining c.args.self.now.reader))
+
+pub returns-in_err-fill-clause-too_many : goal.returns-in_err-fill-clause-too_many
+returns-in_err-fill-clause-too_many g c = let p = err_from_is_err_and c.from_residual.result c.from_residual.ensures.1 in rw (p.1, p.2) (never_full _ _ c.in_err-fill.ensures.other)
+
+pub returns-in-Err-clause-too_many : goal.returns-in-Err-clause-too_many
+returns-in-Err-clause-too_many g c = rw c.row_fault.ensures (row_other c.saturating_add-number.result c.in-Err.fault _)
+
+pub returns-in_default-checked_add-clause-too_many : goal.returns-in_default-checked_add-clause-too_many
+returns-in_default-checked_add-clause-too_many g c =
+    out_of_rows c.args.self.now.taker.description.value.tables.items c.args.self.now.rows c.loop-size.self.rows
+    (prepend_known c.args.self.now.line.items (g.R.Read.remaining c.args.self.now.reader)) (prepend_known c.loop-size.self.line.items (g.R.Read.remaining c.loop-size.self.reader))
+    c.args.self.now.hasher c.loop-size.self.hasher c.loop-size.size c.loop-size.changes c.loop-size.invariant.gathered (omega (arith, c.in_default-checked_add.ensures))

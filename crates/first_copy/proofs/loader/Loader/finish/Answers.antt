@@ -1,6 +1,6 @@
 use Rattle.std.proofs.Common.{◌≢◌, ◌+◌, ◌-◌, ◌^◌, min, ◌∙◌, arith}
 use Rattle.std.specs.Io.KnownBytes.{prepend_known}
-use Rattle.first_copy.proofs.FaultsAfter.{known_here, always, other_count, trailed, read_here}
+use Rattle.first_copy.proofs.FaultsAfter.{known_here, read_other, always, other_count, trailed, read_here}
 use Rattle.first_copy.proofs.loader.Loader.finish.Goals as goal
 
 pub returns-then-said-self-clause-fault : goal.returns-then-said-self-clause-fault
@@ -22,3 +22,6 @@ returns-in-Err-clause-fault g c =
     let tables = c.args.self.now.taker.description.value.tables.items in
     let text = prepend_known c.args.self.now.line.items (g.R.Read.remaining c.args.self.now.reader) in
     known_here tables c.args.self.now.rows text _ (always text _ (λ rest. read_here tables c.args.self.now.rows rest _ c.read_fault.ensures))
+
+pub returns-in-Err-clause-other : goal.returns-in-Err-clause-other
+returns-in-Err-clause-other g c = read_other c.read_fault.result _ c.read_fault.ensures
