@@ -20,6 +20,9 @@ const SHELLS: [&str; 3] = ["bash", "zsh", "fish"];
 /// The words of `--format` of `mrep info`.
 const TEXT_OR_JSON: [&str; 2] = ["text", "json"];
 
+/// The options by which `mrep admit` has a copy instead of names of tables.
+const COPY_OPTIONS: [&str; 3] = ["copy", "columns", "sha1"];
+
 /// How an argument is given.
 #[derive(Clone, Copy)]
 pub enum Kind {
@@ -29,12 +32,16 @@ pub enum Kind {
     WordOf(&'static [&'static str]),
     /// One word or more.
     Words,
+    /// One word or more, or options of these names instead.
+    WordsOr(&'static [&'static str]),
     /// A required option with a value of this name.
     Needed(&'static str),
     /// A required option with a value of this name, which may begin with a hyphen.
     NeededText(&'static str),
     /// An option with a value of this name, which may begin with a hyphen.
     Text(&'static str),
+    /// An option with a value of the first name, which may begin with a hyphen, that is given only with the option of the second one.
+    TextWith(&'static str, &'static str),
     /// An option with a value of this name, which may be repeated.
     Repeated(&'static str),
     /// An option with a value of this name, which is one of these words.
@@ -54,7 +61,10 @@ impl Kind {
 
     /// Whether its value may begin with a hyphen.
     fn may_be_hyphenated(self) -> bool {
-        matches!(self, Kind::NeededText(_) | Kind::Text(_))
+        matches!(
+            self,
+            Kind::NeededText(_) | Kind::Text(_) | Kind::TextWith(_, _)
+        )
     }
 
     /// The name of the value, of an option that has one.
@@ -63,9 +73,10 @@ impl Kind {
             Kind::Needed(value)
             | Kind::NeededText(value)
             | Kind::Text(value)
+            | Kind::TextWith(value, _)
             | Kind::Repeated(value)
             | Kind::OneOf(value, _) => Some(value),
-            Kind::Word | Kind::WordOf(_) | Kind::Words | Kind::Flag => None,
+            Kind::Word | Kind::WordOf(_) | Kind::Words | Kind::WordsOr(_) | Kind::Flag => None,
         }
     }
 
@@ -79,18 +90,21 @@ impl Kind {
 
     /// Whether it is given after its name.
     pub fn is_option(self) -> bool {
-        !matches!(self, Kind::Word | Kind::WordOf(_) | Kind::Words)
+        !matches!(
+            self,
+            Kind::Word | Kind::WordOf(_) | Kind::Words | Kind::WordsOr(_)
+        )
     }
 
     /// Whether it may be given more than once.
     pub fn is_repeated(self) -> bool {
-        matches!(self, Kind::Words | Kind::Repeated(_))
+        matches!(self, Kind::Words | Kind::WordsOr(_) | Kind::Repeated(_))
     }
 
     /// What is done with its values.
     fn action(self) -> ArgAction {
         match self {
-            Kind::Words | Kind::Repeated(_) => ArgAction::Append,
+            Kind::Words | Kind::WordsOr(_) | Kind::Repeated(_) => ArgAction::Append,
             Kind::Flag => ArgAction::SetTrue,
             _ => ArgAction::Set,
         }
@@ -438,8 +452,23 @@ static OTHERS: [CommandRow; 13] = [
         &[
             DB,
             Argument(
+                "copy",
+                Kind::TextWith("COPY", "columns"),
+                "Instead of names a first copy of the tables, with rows, that was read at the executed set: it is begun too, and is then to be loaded",
+            ),
+            Argument(
+                "columns",
+                Kind::TextWith("FILE", "copy"),
+                "The description of the columns of the copy",
+            ),
+            Argument(
+                "sha1",
+                Kind::TextWith("DIGEST", "copy"),
+                "The SHA-1 of COPY, as for `mrep load`",
+            ),
+            Argument(
                 "SCHEMA.TABLE",
-                Kind::Words,
+                Kind::WordsOr(&COPY_OPTIONS),
                 "A table that is to be followed too; of a database that keeps no rows also SCHEMA.*, all tables of the schema",
             ),
         ],
@@ -582,7 +611,7 @@ pub fn commands() -> [&'static [CommandRow]; 3] {
 }
 
 /// The argument of a row.
-fn arg_of<'a>(alloc: Global, row: &Argument) -> Arg<'a> {
+fn arg_of<'a>(alloc: Global, row: &Argument) -> Result<Arg<'a>, AllocError> {
     let Argument(name, kind, help) = *row;
     let arg = Arg::new(alloc, name)
         .help(help)
@@ -590,13 +619,18 @@ fn arg_of<'a>(alloc: Global, row: &Argument) -> Arg<'a> {
         .action(kind.action())
         .allow_hyphen_values(kind.may_be_hyphenated());
     match kind {
-        Kind::Word => arg,
-        Kind::WordOf(words) => arg.value_parser(words),
-        Kind::Words => arg.num_args(1..),
-        Kind::Flag => arg.long(name),
-        Kind::OneOf(value, words) => arg.long(name).value_name(value).value_parser(words),
+        Kind::Word => Ok(arg),
+        Kind::WordOf(words) => Ok(arg.value_parser(words)),
+        Kind::Words => Ok(arg.num_args(1..)),
+        Kind::WordsOr(options) => arg
+            .num_args(1..)
+            .required_unless_present_any(options)?
+            .conflicts_with_all(options),
+        Kind::TextWith(value, other) => arg.long(name).value_name(value).requires_arg(other),
+        Kind::Flag => Ok(arg.long(name)),
+        Kind::OneOf(value, words) => Ok(arg.long(name).value_name(value).value_parser(words)),
         Kind::Needed(value) | Kind::NeededText(value) | Kind::Text(value) | Kind::Repeated(value) =>
-            arg.long(name).value_name(value),
+            Ok(arg.long(name).value_name(value)),
     }
 }
 
@@ -608,7 +642,7 @@ fn with_arguments<'a>(
 ) -> Result<Command<'a>, AllocError> {
     let mut command = command;
     for row in rows {
-        command = command.arg(arg_of(alloc, row))?;
+        command = command.arg(arg_of(alloc, row)?)?;
     }
     Ok(command)
 }

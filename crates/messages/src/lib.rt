@@ -19,4 +19,4 @@ pub use fault_name::{event_reason, wire_reason};
 pub use kept::{KEEPS_NONE, KEEPS_ROWS, NEW_FEED, NO_FILE};
 pub use reason::{HaltCause, can_skip, write_advice, write_cause, write_end, write_reason};
 pub use refused::write_refused;
-pub use unloadable::{UNFINISHED, write_unloadable};
+pub use unloadable::{GIVEN_UP, OTHER_SET, UNFINISHED, write_unloadable};

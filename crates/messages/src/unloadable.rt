@@ -5,14 +5,16 @@ use replica::Unloadable;
 use std::io;
 use std::io::Write;
 
-const OTHER_SET: &str =
+/// What to do where the executed set is not that of the copy.
+pub const OTHER_SET: &str =
     "it has executed other transactions than those that the copy has, or another copy was loaded, so that changes of other tables would be lost: follow until exactly the executed set of the copy, or copy again";
 
 /// What to do where a first copy has begun and not ended.
 pub const UNFINISHED: &str =
     "a first copy of tables has begun and not ended: load the same copy again, which goes on where it stopped, or give it up by `mrep abandon`";
 
-const GIVEN_UP: &str = "this copy was given up: make a new one";
+/// What to do where a copy was given up.
+pub const GIVEN_UP: &str = "this copy was given up: make a new one";
 
 /// Writes why a copy may not be loaded, and what to do.
 pub fn write_unloadable<E: Write>(name: &str, why: &Unloadable, err: &mut E) -> io::Result<()> {

@@ -2,6 +2,7 @@
 
 ghost use Rattle.std.specs.Prelude.{◌≡◌, IfOk};
 
+use crate::database::copied_rows::CopyFile;
 use crate::database::open::{closed, opened, opening};
 use crate::database::reading::{FOREIGN, Kept, kept_in};
 use crate::report::failure::{
@@ -12,8 +13,8 @@ use binlog::Follow;
 use clap::ArgMatches;
 use command_line::{parse_tables, word};
 use files::Found;
-use messages::UNFINISHED;
-use replica::{Admission, AdmitFault, InFile, admit_file};
+use messages::{GIVEN_UP, OTHER_SET, UNFINISHED};
+use replica::{Admission, AdmitFault, CopyBegin, InFile, admit_file};
 use sqlite_disk::Unknown;
 use std::alloc::Global;
 use std::io;
@@ -27,41 +28,81 @@ const ALL_FOLLOWED: &str = "it follows all tables, also those that are made late
 const BY_NAME: &str =
     "it keeps rows, and follows each table by its name: SCHEMA.* is for a database that was made with --feed-only";
 
+const STAR: &str = "a table of the copy is named *, which would stand for all tables of its schema";
+
+const HAS_ENDED: &str = "this copy was loaded to its end";
+
+const HAS_BEGUN: &str = "this copy has begun: load it";
+
+const NO_TABLES: &str = "the copy has no rows, and so no tables: admit them by their names";
+
 /// Has a database follow more tables, and prints them.
 pub fn admit<W: Write>(rt: &HostRuntime, given: &ArgMatches<'_>, out: &mut W) -> Result<u8, Failure>
     ensures { IfOk result (λ status. status ≡ DONE) }
 {
-    let alloc = rt.alloc();
     let db = word(given, "db");
+    if given.get_str("copy").is_some() {
+        admit_copied(rt, given, db, out)?;
+        return Ok(DONE);
+    }
+    let alloc = rt.alloc();
     let words = given.get_strs("SCHEMA.TABLE").unwrap_or(&[]);
     let tables = over_argument(alloc, parse_tables(alloc, words))?;
-    check(rt, db, &tables)?;
-    admit_in(rt, db, &tables)?;
+    check(rt, db)?;
+    if has_pattern(&tables) && !matches!(kept_in(rt, db)?.0, Kept::None { .. }) {
+        return Err(unusable(alloc, db, BY_NAME));
+    }
+    admit_in(rt, db, &tables, None)?;
     print(&tables, out)?;
     Ok(DONE)
 }
 
-/// Whether there is a database of this name that may follow such tables.
-fn check(rt: &HostRuntime, db: &str, tables: &Follow) -> Result<(), Failure> {
-    match Found::under(rt, db)? {
-        Found::Nothing => return Err(unusable(rt.alloc(), db, NO_DATABASE)),
-        Found::Foreign => return Err(unusable(rt.alloc(), db, FOREIGN)),
-        _ => {}
+/// Has a database follow the tables of a copy, which is begun as they are admitted, and prints them.
+fn admit_copied<W: Write>(
+    rt: &HostRuntime,
+    given: &ArgMatches<'_>,
+    db: &str,
+    out: &mut W,
+) -> Result<(), Failure> {
+    check(rt, db)?;
+    let file = CopyFile::of(rt, given, "copy")?;
+    let (summary, _) = file.summary(rt)?;
+    let copy = summary.copy();
+    if has_pattern(copy.tables) {
+        return Err(unusable(rt.alloc(), file.name, STAR));
     }
-    if has_pattern(tables) && !matches!(kept_in(rt, db)?.0, Kept::None { .. }) {
-        return Err(unusable(rt.alloc(), db, BY_NAME));
-    }
+    let begin = CopyBegin {
+        gtids: copy.gtids,
+        first: copy.first,
+    };
+    admit_in(rt, db, copy.tables, Some(begin))?;
+    print(copy.tables, out)?;
     Ok(())
 }
 
-/// Adds tables to those that the database in a file follows.
-fn admit_in(rt: &HostRuntime, db: &str, tables: &Follow) -> Result<(), Failure> {
+/// Whether there is a database of this name.
+fn check(rt: &HostRuntime, db: &str) -> Result<(), Failure> {
+    match Found::under(rt, db)? {
+        Found::Nothing => Err(unusable(rt.alloc(), db, NO_DATABASE)),
+        Found::Foreign => Err(unusable(rt.alloc(), db, FOREIGN)),
+        _ => Ok(()),
+    }
+}
+
+/// Adds tables to those that the database in a file follows, with the copy that they come with, if they come with one.
+fn admit_in(
+    rt: &HostRuntime,
+    db: &str,
+    tables: &Follow,
+    copy: Option<CopyBegin<'_>>,
+) -> Result<(), Failure> {
     let Ok(unkept) = Follow::not_kept(rt.alloc(), tables.names()) else {
         return Err(Failure::Memory);
     };
     let ask = Admission {
         tables,
         unkept: &unkept,
+        copy,
     };
     let opening = opening(rt, db)?;
     let done = admit_file(rt, db, Unknown, ask);
@@ -86,6 +127,11 @@ fn unadmitted(alloc: Global, db: &str, fault: AdmitFault) -> Failure {
         AdmitFault::Unfinished(_) => unusable(alloc, db, UNFINISHED),
         AdmitFault::AllFollowed => unusable(alloc, db, ALL_FOLLOWED),
         AdmitFault::Followed(table) => of_followed(alloc, db, &table),
+        AdmitFault::GivenUp => unusable(alloc, db, GIVEN_UP),
+        AdmitFault::HasEnded => unusable(alloc, db, HAS_ENDED),
+        AdmitFault::HasBegun => unusable(alloc, db, HAS_BEGUN),
+        AdmitFault::NoTables => unusable(alloc, db, NO_TABLES),
+        AdmitFault::OtherSet => unusable(alloc, db, OTHER_SET),
     }
 }
 

@@ -35,7 +35,7 @@ pub fn load<W: Write, E: Write>(
     ensures { IfOk result (λ status. status ≤ MEMORY) }
 {
     let wanted = Wanted::of(rt.alloc(), given)?;
-    let file = CopyFile::of(rt, given)?;
+    let file = CopyFile::of(rt, given, "COPY")?;
     load_copy(rt, &wanted, &file, out, err)?;
     Ok(DONE)
 }

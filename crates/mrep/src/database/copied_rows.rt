@@ -30,11 +30,15 @@ pub struct CopyFile<'a> {
 }
 
 impl<'a> CopyFile<'a> {
-    /// The copy that the arguments name: a file, or standard input, which is kept beside the database. Where a SHA-1 is given,
-    /// it has that one.
-    pub fn of(rt: &HostRuntime, given: &ArgMatches<'a>) -> Result<CopyFile<'a>, Failure> {
+    /// The copy that the argument of this name has: a file, or standard input, which is kept beside the database. Where a SHA-1 is
+    /// given, it has that one.
+    pub fn of(
+        rt: &HostRuntime,
+        given: &ArgMatches<'a>,
+        argument: &str,
+    ) -> Result<CopyFile<'a>, Failure> {
         let alloc = rt.alloc();
-        let (name, db) = (word(given, "COPY"), word(given, "db"));
+        let (name, db) = (word(given, argument), word(given, "db"));
         let digest = match given.get_str("sha1") {
             Some(text) => Some(over_argument(alloc, parse_digest("--sha1", text))?),
             None => None,
