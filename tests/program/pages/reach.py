@@ -32,6 +32,18 @@ FUNCTIONS = {
     'crates/replica/src/file/replaying.rt': {'replay': ['open_file']},
     'crates/replica/src/file/work.rt': {'in_file': ['open_file']},
 }
+# The functions of the program that give a database in a file to a call of `replica`, and what each gives the runtime to: only before
+# the call is made, and where the database could not be opened, is anything done by the path.
+CALLS = {
+    'crates/mrep/src/commands/admit.rt': {'admit_to': 'admit_file'},
+    'crates/mrep/src/commands/clear.rt': {'clear_in': 'clear_file'},
+    'crates/mrep/src/commands/follow.rt': {'follow_into': 'follow_file'},
+    'crates/mrep/src/commands/load.rt': {'load_into': 'load_file'},
+    'crates/mrep/src/commands/replay.rt': {'replay_in': 'replica::replay'},
+    'crates/mrep/src/commands/sets.rt': {'adopt_to': 'in_file'},
+    'crates/mrep/src/commands/skip.rt': {'record': 'change_file'},
+    'crates/mrep/src/database/reading.rt': {'list_from': 'in_file'},
+}
 # Ways to the system that need no `HostRuntime` in a line of their own.
 WAYS = r'\b(?:fs|env|process|net|os|thread|libc)::\w+|\bextern\b|\bunsafe\b|\bsqlite_std_file::open\w*'
 # The only use of each.
@@ -45,6 +57,21 @@ OPENS = ('crates/replica/src/file/not_opened.rt', '''{
 }
 ''')
 bad, seen, found = [], {}, {}
+
+
+def calls_of(name, text, named=None):
+    """What each function, or each that is named, gives `rt` to, in order, but for `rt.alloc()`."""
+    for part in re.split(r'\n(?=(?:pub(?:\(\w+\))? )?fn )', text):
+        head = re.match(r'(?:pub(?:\(\w+\))? )?fn (\w+)', part)
+        if named is not None and (not head or head.group(1) not in named):
+            continue
+        body = re.sub(r'\brt\.alloc\(\)|\brt: &HostRuntime\b', '', part)
+        calls = re.findall(r'([\w:]+)\(\s*rt\b(?!:)', body)
+        if len(re.findall(r'\brt\b', body)) != len(calls):
+            bad.append(f'{name}: {head.group(1) if head else "it"} uses `rt` otherwise')
+        if head:
+            yield head.group(1), calls
+
 
 for path in sorted(glob.glob(f'{root}/crates/replica/src/**/*.rt', recursive=True) + glob.glob(f'{root}/crates/store/src/**/*.rt', recursive=True)):
     name, function = os.path.relpath(path, root), None
@@ -63,15 +90,16 @@ for path in sorted(glob.glob(f'{root}/crates/replica/src/**/*.rt', recursive=Tru
             seen.setdefault(name, {})[function] = []
             if not re.search(r'\brt: &HostRuntime\b', line) or function not in FUNCTIONS.get(name, {}):
                 bad.append(f'{name}: {function} has a HostRuntime')
-    # What each use of `rt` is, but `rt.alloc()`.
-    for part in re.split(r'\n(?=(?:pub(?:\(\w+\))? )?fn )', text):
-        head = re.match(r'(?:pub(?:\(\w+\))? )?fn (\w+)', part)
-        body = re.sub(r'\brt\.alloc\(\)|\brt: &HostRuntime\b', '', part)
-        calls = re.findall(r'([\w:]+)\(\s*rt\b(?!:)', body)
-        if head and calls:
-            found.setdefault(name, {})[head.group(1)] = calls
-        if len(re.findall(r'\brt\b', body)) != len(calls):
-            bad.append(f'{name}: {head.group(1) if head else "it"} uses `rt` otherwise')
+    for function, calls in calls_of(name, text):
+        if calls:
+            found.setdefault(name, {})[function] = calls
+
+for name, functions in CALLS.items():
+    with open(f'{root}/{name}', encoding='utf-8') as file:
+        made = dict(calls_of(name, re.sub(r'//.*|"(?:[^"\\]|\\.)*"', '', file.read()), functions))
+    for function, call in functions.items():
+        if made.get(function, [])[:2] != ['opening', call] or len(made[function]) != 3:
+            bad.append(f'{name}: the runtime of {function} goes to {made.get(function)}')
 
 with open(f'{root}/{OPENS[0]}', encoding='utf-8') as file:
     if not file.read().endswith(OPENS[1]):

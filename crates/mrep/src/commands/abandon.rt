@@ -13,6 +13,7 @@ use command_line::parse_table;
 use gtid::{Gtid, GtidSet};
 use replica::{ChangedFile, ended_mark, given_up_mark, unfinished_copy};
 use rows::ExecutedSet;
+use sqlite_disk::Unknown;
 use std::io::Write;
 use watch::Watch;
 
@@ -117,7 +118,7 @@ fn mark<W: Write, E: Write>(
     let (pulse, reports) = wanted.reports(rt, None, &[], err)?;
     let reports = wanted.unless_anew(rt, kept, reports)?;
     let mut watch = Watch::new(wanted.copy_source(rt), &pulse, reports, out, err);
-    let done = record(rt, wanted.db, gtid, &mut watch);
+    let done = record(rt, wanted.db, Unknown, gtid, &mut watch);
     let (done, watch) = wanted.unless_failed(done, watch)?;
     let stopped = wanted.stopped(rt.alloc(), watch.stop());
     let ChangedFile {

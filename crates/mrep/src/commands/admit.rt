@@ -1,9 +1,12 @@
 //! `mrep admit`: more tables that a database follows.
 
-ghost use Rattle.std.specs.Prelude.{◌≡◌, IfOk};
+ghost use Rattle.std.specs.Prelude.{◌≡◌, None, IfOk};
+ghost use Rattle.sqlite_wal.specs.Files.{image_at};
+ghost use Rattle.replica.specs.Admit.{AdmitsInFiles};
+ghost use Rattle.replica.specs.File.{OfHeld};
 
 use crate::database::copied_rows::CopyFile;
-use crate::database::open::{closed, opened, opening};
+use crate::database::open::{closed, opening, unopened_database};
 use crate::database::reading::{FOREIGN, Kept, kept_in};
 use crate::report::failure::{
     DONE, Failure, of_database, of_followed, over_argument, unusable, write_asked,
@@ -15,6 +18,7 @@ use command_line::{parse_tables, word};
 use files::Found;
 use messages::{GIVEN_UP, OTHER_SET, UNFINISHED};
 use replica::{Admission, AdmitFault, CopyBegin, InFile, admit_file};
+use sqlite::{FileFrom, Start};
 use sqlite_disk::Unknown;
 use std::alloc::Global;
 use std::io;
@@ -104,12 +108,10 @@ fn admit_in(
         unkept: &unkept,
         copy,
     };
-    let opening = opening(rt, db)?;
-    let done = admit_file(rt, db, Unknown, ask);
     let InFile {
         done: admitted,
         closed: files,
-    } = opened(rt, db, opening, done)?;
+    } = admit_to(rt, db, Unknown, ask)?;
     let files = closed(rt.alloc(), db, files);
     match admitted {
         Ok(()) => files,
@@ -117,6 +119,24 @@ fn admit_in(
             drop(files);
             Err(unadmitted(rt.alloc(), db, fault))
         }
+    }
+}
+
+/// Adds tables to those that the database in a file follows.
+fn admit_to<P: Start>(
+    rt: &HostRuntime,
+    db: &str,
+    start: P,
+    ask: Admission<'_>,
+) -> Result<InFile<Result<(), AdmitFault>, FileFrom<P>>, Failure>
+    ensures admits { IfOk result (λ made. OfHeld None (image_at P.Start)
+        (λ names content. AdmitsInFiles names content ask.entry.tables.now ask.entry.unkept.now
+        ask.entry.copy made.done made.closed)) }
+{
+    let opening = opening(rt, db)?;
+    match admit_file(rt, db, start, ask) {
+        Ok(made) => Ok(made),
+        Err(unopened) => Err(unopened_database(rt, db, opening, unopened)),
     }
 }
 

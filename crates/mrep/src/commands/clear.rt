@@ -1,8 +1,12 @@
 //! `mrep clear`: all rows of a table out of a database.
 
-ghost use Rattle.std.specs.Prelude.{◌≤◌, IfOk};
+ghost use Rattle.std.specs.Prelude.{◌≤◌, None, IfOk};
+ghost use Rattle.sqlite_wal.specs.Files.{image_at};
+ghost use Rattle.replica.specs.Clear.{clear_of};
+ghost use Rattle.replica.specs.ClearFile.{ClearsFile};
+ghost use Rattle.replica.specs.File.{OfHeld};
 
-use crate::database::open::{closed, opened, opening};
+use crate::database::open::{closed, opening, unopened_database};
 use crate::report::failure::{
     DONE, Failure, MEMORY, of_database, of_other_tables, over_argument, unusable, write_failure,
 };
@@ -12,7 +16,7 @@ use command_line::{parse_gtid, parse_set, parse_table, word};
 use formats::{Shown, write_table};
 use gtid::{Gtid, GtidSet, Spans};
 use replica::{ClearEnd, ClearedFile, Observer, Reason, clear_file};
-use sqlite::File;
+use sqlite::{FileFrom, Start};
 use sqlite_disk::Unknown;
 use std::alloc::Global;
 use std::io::Write;
@@ -96,7 +100,7 @@ pub fn clear_reported<W: Write, E: Write>(
     let (pulse, reports) = wanted.reports(rt, None, &[], err)?;
     let source = wanted.clear_source(rt, what.is_copy, (what.schema, what.name));
     let mut watch = Watch::new(source, &pulse, reports, out, err);
-    let done = clear_in(rt, wanted.db, what, &mut watch);
+    let done = clear_in(rt, wanted.db, Unknown, what, &mut watch);
     let (done, watch) = wanted.unless_failed(done, watch)?;
     let alloc = rt.alloc();
     let stopped = wanted.stopped(alloc, watch.stop());
@@ -112,12 +116,17 @@ pub fn clear_reported<W: Write, E: Write>(
 }
 
 /// Takes all rows of a table out of the database in a file, which is opened with its own filter.
-fn clear_in<W: Observer>(
+fn clear_in<P: Start, W: Observer>(
     rt: &HostRuntime,
     db: &str,
+    start: P,
     what: TableToClear<'_>,
     observer: &mut W,
-) -> Result<ClearedFile<File>, Failure> {
+) -> Result<ClearedFile<FileFrom<P>>, Failure>
+    ensures clears { IfOk result (λ done. OfHeld None (image_at P.Start) (λ names content.
+        ClearsFile (clear_of what.entry.schema.now what.entry.name.now what.entry.gtid
+        what.entry.at.now) names content done)) }
+{
     let opening = opening(rt, db)?;
     let TableToClear {
         schema,
@@ -126,8 +135,10 @@ fn clear_in<W: Observer>(
         at,
         ..
     } = what;
-    let done = clear_file(rt, db, Unknown, schema, name, gtid, at, observer);
-    opened(rt, db, opening, done)
+    match clear_file(rt, db, start, schema, name, gtid, at, observer) {
+        Ok(done) => Ok(done),
+        Err(unopened) => Err(unopened_database(rt, db, opening, unopened)),
+    }
 }
 
 /// How many rows went; none where the GTID was executed.

@@ -1,9 +1,13 @@
 //! `mrep follow`: a source followed over a socket.
 
 ghost use Rattle.std.specs.Prelude.{◌≤◌, ⊤, IfOk};
+ghost use Rattle.sqlite_wal.specs.Files.{image_at};
+ghost use Rattle.store.specs.Entering.{wanted_of, names_for};
+ghost use Rattle.replica.specs.File.{OfHeld};
+ghost use Rattle.replica.specs.FollowFile.{FollowsFile};
 
 use crate::commands::account::{Address, Options, password_of, secret_of, user_of, warn};
-use crate::database::open::{closed, opened, opening};
+use crate::database::open::{closed, opening, unopened_database};
 use crate::report::failure::{
     Failure, FailureKind, MEMORY, named, of_system, over_argument, write_failure,
 };
@@ -15,9 +19,10 @@ use command_line::{parse_number, word};
 use formats::Shown;
 use gtid::GtidSet;
 use replica::{
-    Config, ConfigFault, Connect, Ended, FollowedFile, Observer, Reason, Until, follow_file,
-    unfinished_copy,
+    Config, ConfigFault, Connect, Duplex, Ended, FollowedFile, Observer, Reason, Until,
+    follow_file, unfinished_copy,
 };
+use sqlite::{FileFrom, Start};
 use sqlite_disk::Unknown;
 use std::alloc::Global;
 use std::io;
@@ -278,6 +283,34 @@ impl<'r> Connect for Host<'r, '_> {
     }
 }
 
+/// Follows a source that is reached so, into the database in a file.
+fn follow_into<
+    P: Start,
+    T: Duplex + Drop,
+    E: Drop,
+    C: Connect<Stream = T, Error = E> + Drop,
+    W: Observer,
+>(
+    rt: &HostRuntime,
+    db: &str,
+    start: P,
+    only: Option<&Follow>,
+    config: Config,
+    connect: C,
+    observer: &mut W,
+) -> Result<FollowedFile<T, E, FileFrom<P>>, Failure>
+    ensures follows { IfOk result (λ done. OfHeld (wanted_of only.entry) (image_at P.Start)
+        (λ names content. FollowsFile
+        (record { left = T.Read.remaining; written = T.Write.contents; failures = T.failures })
+        (C.gives connect) config (names_for (wanted_of only.entry)) names content done)) }
+{
+    let opening = opening(rt, db)?;
+    match follow_file(rt, db, start, only, config, connect, observer) {
+        Ok(done) => Ok(done),
+        Err(unopened) => Err(unopened_database(rt, db, opening, unopened)),
+    }
+}
+
 /// Follows over a socket.
 fn follow_over<W: Observer>(
     host: Host<'_, '_>,
@@ -287,12 +320,10 @@ fn follow_over<W: Observer>(
     observer: &mut W,
 ) -> Result<Followed, Failure> {
     let rt = host.rt;
-    let opening = opening(rt, db)?;
-    let done = follow_file(rt, db, Unknown, only, config, host, observer);
     let FollowedFile {
         connection,
         closed: files,
-    } = opened(rt, db, opening, done)?;
+    } = follow_into(rt, db, Unknown, only, config, host, observer)?;
     let connection = match connection {
         Ok((end, stream)) => Ok((end, stream.failure())),
         Err(cause) => Err(cause),

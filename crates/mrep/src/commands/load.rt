@@ -1,10 +1,15 @@
 //! `mrep load`: a first copy of tables into a database.
 
 ghost use Rattle.std.specs.Prelude.{◌≤◌, IfOk};
+ghost use Rattle.sqlite_wal.specs.Files.{image_at};
+ghost use Rattle.store.specs.Entering.{wanted_of, names_for};
+ghost use Rattle.replica.specs.Copies.{copy_of};
+ghost use Rattle.replica.specs.File.{OfHeld};
+ghost use Rattle.replica.specs.LoadFile.{LoadsFile};
 
 use crate::commands::clear::failure_of;
 use crate::database::copied_rows::CopyFile;
-use crate::database::open::{closed, opened, opening};
+use crate::database::open::{closed, opening, unopened_database};
 use crate::report::failure::{
     DONE, Failure, MEMORY, of_copy, of_database, of_unloadable, unusable, write_failure,
 };
@@ -15,7 +20,7 @@ use first_copy::{RowsFault, Summary};
 use formats::Shown;
 use gather::Deliveries;
 use replica::{ChangeEnd, Ended, FirstCopy, LoadEnd, LoadedFile, Observer, Reason, load_file};
-use sqlite::File;
+use sqlite::{File, FileFrom, Start};
 use sqlite_disk::Unknown;
 use std::alloc::Global;
 use std::io::Write;
@@ -90,6 +95,7 @@ fn load_rows<W: Write, E: Write>(
     let done = load_into(
         rt,
         wanted.db,
+        Unknown,
         only.as_ref(),
         summary.copy(),
         rows,
@@ -131,17 +137,24 @@ fn concluded<E: Write>(
 }
 
 /// Loads a copy into the database in a file.
-fn load_into<I: Deliveries + Drop, W: Observer>(
+fn load_into<P: Start, I: Deliveries + Drop, W: Observer>(
     rt: &HostRuntime,
     db: &str,
+    start: P,
     only: Option<&Follow>,
     copy: FirstCopy<'_>,
     rows: I,
     observer: &mut W,
-) -> Result<LoadedFile<I::Error, File>, Failure> {
+) -> Result<LoadedFile<I::Error, FileFrom<P>>, Failure>
+    ensures loads { IfOk result (λ done. OfHeld (wanted_of only.entry) (image_at P.Start)
+        (λ names content. LoadsFile (names_for (wanted_of only.entry)) names content
+        (copy_of (I.supply rows) copy.entry) done)) }
+{
     let opening = opening(rt, db)?;
-    let done = load_file(rt, db, Unknown, only, copy, rows, observer);
-    opened(rt, db, opening, done)
+    match load_file(rt, db, start, only, copy, rows, observer) {
+        Ok(done) => Ok(done),
+        Err(unopened) => Err(unopened_database(rt, db, opening, unopened)),
+    }
 }
 
 /// Reports that a copy of so many bytes is done with, and how many of its transactions were applied.

@@ -1,8 +1,12 @@
 //! `mrep replay`: connections read from files into a database.
 
 ghost use Rattle.std.specs.Prelude.{◌≤◌, IfOk};
+ghost use Rattle.sqlite_wal.specs.Files.{image_at};
+ghost use Rattle.store.specs.Entering.{wanted_of};
+ghost use Rattle.replica.specs.File.{OfHeld};
+ghost use Rattle.replica.specs.Replay.{Replays};
 
-use crate::database::open::{closed, opened, opening};
+use crate::database::open::{closed, opening, unopened_database};
 use crate::report::failure::{Failure, MEMORY, of_system, write_failure};
 use crate::report::status::{counted, status_after};
 use crate::report::wanted::{Wanted, waited};
@@ -12,11 +16,11 @@ use files::{Input, is_log_file};
 use formats::Shown;
 use gtid::GtidSet;
 use replica::{Capture, Config, Halt, Observer, Replayed, Until, read_some};
-use sqlite::File;
+use sqlite::{File, FileFrom, Start};
 use sqlite_disk::Unknown;
 use std::alloc::Global;
 use std::io;
-use std::io::Write;
+use std::io::{Read, Write};
 use watch::Watch;
 use wire::LARGEST_PAYLOAD;
 
@@ -153,11 +157,27 @@ impl Replaying {
             ..
         } = self;
         let Some(set) = until else {
-            let done = replay_in(rt, db, only.as_ref(), &config, captures, &mut observer);
+            let done = replay_in(
+                rt,
+                db,
+                Unknown,
+                only.as_ref(),
+                &config,
+                captures,
+                &mut observer,
+            );
             return (with_wait(done, false), observer);
         };
         let mut waiting = Until::new(rt.alloc(), set, observer);
-        let done = replay_in(rt, db, only.as_ref(), &config, captures, &mut waiting);
+        let done = replay_in(
+            rt,
+            db,
+            Unknown,
+            only.as_ref(),
+            &config,
+            captures,
+            &mut waiting,
+        );
         let done = with_wait(done, waiting.is_out_of_memory());
         (done, waiting.into_inner())
     }
@@ -172,17 +192,24 @@ fn with_wait(
 }
 
 /// Reads captured connections into the database in a file.
-fn replay_in<W: Observer>(
+fn replay_in<P: Start, R: Read + Drop, W: Observer>(
     rt: &HostRuntime,
     db: &str,
+    start: P,
     only: Option<&Follow>,
     config: &Config,
-    captures: Vec<Capture<Input>>,
+    captures: Vec<Capture<R>>,
     observer: &mut W,
-) -> Result<Replayed<File>, Failure> {
+) -> Result<Replayed<FileFrom<P>>, Failure>
+    ensures replays { IfOk result (λ done. OfHeld (wanted_of only.entry) (image_at P.Start)
+        (λ names content. Replays R.Read.remaining config.now.limit names content
+        captures.items done)) }
+{
     let opening = opening(rt, db)?;
-    let done = replica::replay(rt, db, Unknown, only, config, captures, observer);
-    opened(rt, db, opening, done)
+    match replica::replay(rt, db, start, only, config, captures, observer) {
+        Ok(done) => Ok(done),
+        Err(unopened) => Err(unopened_database(rt, db, opening, unopened)),
+    }
 }
 
 /// The failure of the reading of a stream, the one after this many.

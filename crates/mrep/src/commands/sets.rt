@@ -1,8 +1,12 @@
 //! `mrep gtids`, `mrep missing` and `mrep adopt`: the executed set of a database.
 
-ghost use Rattle.std.specs.Prelude.{◌≡◌, IfOk};
+ghost use Rattle.std.specs.Prelude.{◌≡◌, None, IfOk};
+ghost use Rattle.sqlite_wal.specs.Files.{image_at};
+ghost use Rattle.replica.specs.Adopt.{AdoptsTo, IsLeftOfAdopt};
+ghost use Rattle.replica.specs.File.{OfHeld};
+ghost use Rattle.replica.specs.Work.{WorksInFiles};
 
-use crate::database::open::{closed, opened, opening};
+use crate::database::open::{closed, opening, unopened_database};
 use crate::database::reading::list_in;
 use crate::report::failure::{DONE, Failure, of_database, over_argument, unusable};
 use clap::ArgMatches;
@@ -12,6 +16,7 @@ use gtid::GtidSet;
 use messages::UNFINISHED;
 use replica::{AdoptFault, Adopting, InFile, in_file};
 use rows::{ExecutedSet, MissingSet};
+use sqlite::{FileFrom, Start};
 use sqlite_disk::Unknown;
 use std::alloc::Global;
 use std::io::Write;
@@ -59,12 +64,10 @@ fn asked(alloc: Global, given: &ArgMatches<'_>) -> Result<GtidSet, Failure> {
 
 /// Adds a set to the executed set of the database in a file, which is opened with its own filter. Returns what was new of it.
 fn adopt_in(rt: &HostRuntime, db: &str, asked: &GtidSet) -> Result<GtidSet, Failure> {
-    let opening = opening(rt, db)?;
-    let done = in_file(rt, db, Unknown, 0, None, &mut Adopting { gtids: asked });
     let InFile {
         done: added,
         closed: files,
-    } = opened(rt, db, opening, done)?;
+    } = adopt_to(rt, db, Unknown, asked)?;
     let files = closed(rt.alloc(), db, files);
     match added {
         Ok(added) => files.map(|()| added),
@@ -72,6 +75,24 @@ fn adopt_in(rt: &HostRuntime, db: &str, asked: &GtidSet) -> Result<GtidSet, Fail
             drop(files);
             Err(unadopted(rt.alloc(), db, fault))
         }
+    }
+}
+
+/// Adds a set to the executed set of the database in a file.
+fn adopt_to<P: Start>(
+    rt: &HostRuntime,
+    db: &str,
+    start: P,
+    asked: &GtidSet,
+) -> Result<InFile<Result<GtidSet, AdoptFault>, FileFrom<P>>, Failure>
+    ensures adopts { IfOk result (λ made. OfHeld None (image_at P.Start) (λ names content.
+        WorksInFiles names (AdoptsTo content asked.now made.done)
+        (IsLeftOfAdopt content asked.now made.done) made.closed)) }
+{
+    let opening = opening(rt, db)?;
+    match in_file(rt, db, start, 0, None, &mut Adopting { gtids: asked }) {
+        Ok(made) => Ok(made),
+        Err(unopened) => Err(unopened_database(rt, db, opening, unopened)),
     }
 }
 

@@ -1,10 +1,15 @@
 //! `mrep skip`: a GTID as executed, without changes.
 
-ghost use Rattle.std.specs.Prelude.{◌≡◌, ◌≤◌, [], ◌∷◌, map, IfOk};
+ghost use Rattle.std.specs.Prelude.{◌≡◌, ◌≤◌, [], ◌∷◌, map, None, IfOk};
+ghost use Rattle.std.specs.FinSet as set;
+ghost use Rattle.sqlite_wal.specs.Files.{image_at};
+ghost use Rattle.gather.specs.Given.{listed};
 ghost use Rattle.gather.specs.View.{delivery_value};
+ghost use Rattle.replica.specs.ChangeFile.{ChangesFile};
+ghost use Rattle.replica.specs.File.{OfHeld};
 
 use crate::commands::clear::failure_of;
-use crate::database::open::{closed, opened, opening};
+use crate::database::open::{closed, opening, unopened_database};
 use crate::report::failure::{
     DONE, Failure, MEMORY, of_argument, of_database, of_skip, over_argument, unusable,
 };
@@ -15,7 +20,7 @@ use gather::{Changes, Delivery};
 use gtid::{Gtid, GtidSet};
 use messages::UNFINISHED;
 use replica::{ChangeEnd, ChangedFile, Observer, change_file, is_mark};
-use sqlite::File;
+use sqlite::{FileFrom, Start};
 use sqlite_disk::Unknown;
 use std::alloc::{AllocError, Global};
 use std::collections::VecDeque;
@@ -62,7 +67,7 @@ fn skip_in(
         applied,
         end,
         closed: files,
-    } = record(rt, db, gtid, &mut watch)?;
+    } = record(rt, db, Unknown, gtid, &mut watch)?;
     let alloc = rt.alloc();
     let fed = fed(alloc, db, feed, watch.stop());
     fed.and(outcome(alloc, db, end))
@@ -112,17 +117,24 @@ fn without_changes(alloc: Global, gtid: Gtid) -> Result<VecDeque<Delivery>, Allo
 }
 
 /// Applies a transaction without changes to the database in a file, which is opened with its own filter.
-pub fn record<W: Observer>(
+pub fn record<P: Start, W: Observer>(
     rt: &HostRuntime,
     db: &str,
+    start: P,
     gtid: Gtid,
     observer: &mut W,
-) -> Result<ChangedFile<Infallible, File>, Failure> {
+) -> Result<ChangedFile<Infallible, FileFrom<P>>, Failure>
+    ensures records { IfOk result (λ done. OfHeld None (image_at P.Start) (λ names content.
+        ChangesFile (listed (record { source = gtid.source; number = gtid.number; changes = [] }
+        ∷ [])) names content set.empty done)) }
+{
     let list = without_changes(rt.alloc(), gtid)?;
     let none = GtidSet::new(rt.alloc());
     let opening = opening(rt, db)?;
-    let done = change_file(rt, db, Unknown, None, &none, list, observer);
-    opened(rt, db, opening, done)
+    match change_file(rt, db, start, None, &none, list, observer) {
+        Ok(done) => Ok(done),
+        Err(unopened) => Err(unopened_database(rt, db, opening, unopened)),
+    }
 }
 
 /// What the end of it comes to.

@@ -4,7 +4,7 @@ use crate::report::failure::{Failure, of_damage, of_database, of_file, over_file
 use files::{LOCKED, Opening, is_file, missing_wal, opening_fault, reading_fault, remove_unused};
 use replica::{InFile, Unopened, close_file, open_file};
 use sqlite::{Alter, Connection, Error, ErrorCode, File, FileStore, Files};
-use sqlite_disk::Unknown;
+use sqlite_disk::{Disk, Unknown};
 use sqlite_std_file::OpenError;
 use std::alloc::Global;
 use store::{Damage, ListError, StoreFault};
@@ -89,22 +89,18 @@ pub fn opening(rt: &HostRuntime, name: &str) -> Result<Opening, Failure> {
     over_file(rt.alloc(), name, Opening::begin(rt, name))
 }
 
-/// What was done with the database of this name, whose opening was begun so. If it could not be opened, its files are closed and
-/// the name is given up.
-pub fn opened<T>(
+/// The failure of the database of this name that could not be opened, whose opening was begun so. Its files are closed, and the
+/// name is given up.
+pub fn unopened_database<D: Disk + Drop>(
     rt: &HostRuntime,
     name: &str,
     opening: Opening,
-    done: Result<T, Unopened<File>>,
-) -> Result<T, Failure> {
-    let unopened = match done {
-        Ok(done) => return Ok(done),
-        Err(unopened) => unopened,
-    };
+    unopened: Unopened<D>,
+) -> Failure {
     let Opening { lock, wal } = opening;
     let failure = refusal(rt, DatabaseNames::named(name), leave(rt, wal, unopened));
     lock.discard(rt, name);
-    Err(failure)
+    failure
 }
 
 /// Locks a file that is there as an open database is locked, until the result is dropped. Nothing is written to it. A file
@@ -134,7 +130,7 @@ enum Cause {
 }
 
 /// Closes what is left of an opening that failed, and returns its cause.
-fn leave(rt: &HostRuntime, wal: Option<String>, unopened: Unopened<File>) -> Cause {
+fn leave<D: Disk + Drop>(rt: &HostRuntime, wal: Option<String>, unopened: Unopened<D>) -> Cause {
     match unopened {
         Unopened::NotOpened(why) => Cause::Fault(match why.cause {
             Error::SqliteFailure(ErrorCode::OutOfMemory) => StoreFault::Memory,
@@ -150,11 +146,11 @@ fn leave(rt: &HostRuntime, wal: Option<String>, unopened: Unopened<File>) -> Cau
 }
 
 /// Closes a database that was opened and whose store was not, and returns the cause.
-fn leave_database(
+fn leave_database<D: Disk + Drop>(
     rt: &HostRuntime,
     wal: Option<String>,
     fault: StoreFault,
-    mut conn: Connection<FileOf>,
+    mut conn: Connection<FileStore<D>>,
 ) -> Cause {
     let cause = cause_in(rt.alloc(), fault, &mut conn);
     remove_unused(rt, wal);

@@ -3,18 +3,24 @@
 //! Where another process has the database open, or its tables stand in its WAL file alone, a copy is read as `mrep copy` makes
 //! one, F.readN.part beside it, which is removed.
 
+ghost use Rattle.std.specs.Prelude.{◌≡◌, None, IfOk};
+ghost use Rattle.sqlite_wal.specs.Files.{image_at};
+ghost use Rattle.store.specs.Listing.{IsListed};
+ghost use Rattle.replica.specs.File.{OfHeld};
+ghost use Rattle.replica.specs.Work.{WorksInFiles};
+
 use crate::commands::copy::{Target, fill};
-use crate::database::open::{listed, opened, opening, unopened_copy};
+use crate::database::open::{listed, opening, unopened_copy, unopened_database};
 use crate::report::failure::{Failure, MEMORY, over_file, unusable};
 use binlog::Follow;
-use files::{CopyPart, FileFault, FileNames, Found, Owner, make_part, owner_of};
+use files::{CopyPart, FileFault, FileNames, Found, Opening, Owner, make_part, owner_of};
 use gtid::GtidSet;
 use messages::KEEPS_NONE;
 use replica::{InFile, Unopened, in_file};
-use sqlite::{Connection, Error, ErrorCode, File};
-use sqlite_disk::Unknown;
+use sqlite::{Connection, Error, ErrorCode, FileFrom, Start};
+use sqlite_disk::{Disk, Unknown};
 use std::alloc::{AllocError, Global};
-use store::{Listed, Lister, Visitor};
+use store::{ListError, Listed, Lister, Visitor};
 
 /// How many processes may read copies of one database at a time.
 const READERS: u32 = 64;
@@ -183,20 +189,60 @@ fn list_database<L: Lister>(
     name: &str,
     lister: &mut L,
 ) -> Result<Result<(), L::Error>, Failure> {
-    let opening = opening(rt, name)?;
-    let done = in_file(rt, name, Unknown, 0, None, lister);
-    let is_open = is_open_elsewhere(&done);
-    match opened(rt, name, opening, done) {
+    match list_from(rt, name, Unknown, lister) {
         Ok(done) => listed(rt.alloc(), name, name, done),
-        Err(_) if is_open => list_copy(rt, name, lister),
-        Err(failure) => Err(failure),
+        Err(NotListed::InUse) => list_copy(rt, name, lister),
+        Err(NotListed::Failed(failure)) => Err(failure),
     }
 }
 
+/// Why a database was not given to a lister.
+enum NotListed {
+    /// Another process has it open.
+    InUse,
+    Failed(Failure),
+}
+
+/// Gives the database in a file to a lister.
+fn list_from<P: Start, L: Lister>(
+    rt: &HostRuntime,
+    name: &str,
+    start: P,
+    lister: &mut L,
+) -> Result<InFile<Result<(), ListError<L::Error>>, FileFrom<P>>, NotListed>
+    ensures lists { IfOk result (λ made. OfHeld None (image_at P.Start) (λ names content.
+        WorksInFiles names (λ new. IsListed L.begun L.Visitor.row_gives names content lister.old
+        lister.new made.done × (new ≡ content)) (λ new left. left ≡ new) made.closed)) }
+{
+    let opening = match opening(rt, name) {
+        Ok(opening) => opening,
+        Err(failure) => return Err(NotListed::Failed(failure)),
+    };
+    match in_file(rt, name, start, 0, None, lister) {
+        Ok(done) => Ok(done),
+        Err(unopened) => Err(unlisted(rt, name, opening, unopened)),
+    }
+}
+
+/// Why the database of this name, which could not be opened, was not given to a lister.
+fn unlisted<D: Disk + Drop>(
+    rt: &HostRuntime,
+    name: &str,
+    opening: Opening,
+    unopened: Unopened<D>,
+) -> NotListed {
+    let is_in_use = is_in_use(&unopened);
+    let failure = unopened_database(rt, name, opening, unopened);
+    if is_in_use {
+        return NotListed::InUse;
+    }
+    NotListed::Failed(failure)
+}
+
 /// Whether a database was not opened since another process has it open.
-fn is_open_elsewhere<T: Drop>(done: &Result<InFile<T, File>, Unopened<File>>) -> bool {
-    match done {
-        Err(Unopened::NotOpened(why)) => {
+fn is_in_use<D: Disk>(unopened: &Unopened<D>) -> bool {
+    match unopened {
+        Unopened::NotOpened(why) => {
             matches!(why.cause, Error::SqliteFailure(ErrorCode::DatabaseBusy))
         }
         _ => false,
