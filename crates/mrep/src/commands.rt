@@ -35,6 +35,7 @@ use crate::commands::show::{info, show, tables};
 use crate::commands::skip::skip;
 use crate::commands::verify::verify;
 use crate::payloads::lines::Lines;
+use crate::report::console::Console;
 use crate::report::failure::{DONE, Failure, MEMORY, of_words, over_argument, write_failure};
 use clap::{ArgMatches, Command};
 use command_line::{
@@ -56,21 +57,20 @@ use std::io::{ErrorKind, Write};
 pub fn command<S: AsStr, O: Write, E: Write>(
     rt: &HostRuntime,
     words: &[S],
-    out: &mut O,
-    err: &mut E,
+    console: &mut Console<O, E>,
 ) -> u8
     ensures { result ≤ MEMORY }
 {
-    match run(rt, words, out, err) {
+    match run(rt, words, console) {
         Ok(status) => status,
         Err(failure) => {
             if !matches!(failure, Failure::Output(_))
-                && let Err(cause) = out.flush()
+                && let Err(cause) = console.out.flush()
             {
-                write_failure(Err(Failure::Output(cause)), err);
+                write_failure(Err(Failure::Output(cause)), &mut console.err);
             }
             let status = failure.status();
-            write_failure(Err(failure), err);
+            write_failure(Err(failure), &mut console.err);
             status
         }
     }
@@ -79,28 +79,26 @@ pub fn command<S: AsStr, O: Write, E: Write>(
 fn run<S: AsStr, O: Write, E: Write>(
     rt: &HostRuntime,
     words: &[S],
-    out: &mut O,
-    err: &mut E,
+    console: &mut Console<O, E>,
 ) -> Result<u8, Failure>
     ensures { IfOk result (λ status. status ≤ MEMORY) }
 {
     let words = spelled_out(rt.alloc(), words)?;
-    run_spelled_out(rt, words.as_slice(), out, err)
+    run_spelled_out(rt, words.as_slice(), console)
 }
 
 /// Runs the command that words name, whose options have their long names.
 fn run_spelled_out<'a, O: Write, E: Write>(
     rt: &'a HostRuntime,
     words: &'a [&'a str],
-    out: &mut O,
-    err: &mut E,
+    console: &mut Console<O, E>,
 ) -> Result<u8, Failure>
     ensures { IfOk result (λ status. status ≤ MEMORY) }
 {
     let mut command = grammar(rt.alloc())?;
     match command.try_get_matches_from_mut(words) {
-        Ok(matches) => run_matches(rt, &mut command, &matches, out, err),
-        Err(error) => read_or_gone(answer(rt.alloc(), words, error, out)),
+        Ok(matches) => run_matches(rt, &mut command, &matches, console),
+        Err(error) => read_or_gone(answer(rt.alloc(), words, error, &mut console.out)),
     }
 }
 
@@ -153,8 +151,7 @@ fn run_matches<'a, O: Write, E: Write>(
     rt: &'a HostRuntime,
     command: &mut Command<'a>,
     matches: &ArgMatches<'a>,
-    out: &mut O,
-    err: &mut E,
+    console: &mut Console<O, E>,
 ) -> Result<u8, Failure>
     ensures { IfOk result (λ status. status ≤ MEMORY) }
 {
@@ -165,10 +162,10 @@ fn run_matches<'a, O: Write, E: Write>(
         return Err(mistake(rt.alloc(), input_again(command)));
     }
     if !given.get_flag("feed-only") {
-        note_patterns(given.get_strs("only").unwrap_or(&[]), err);
+        note_patterns(given.get_strs("only").unwrap_or(&[]), &mut console.err);
     }
-    let done = match run_named(rt, name, given, out, err) {
-        Ok(Some(status)) => flushed(status, out, err),
+    let done = match run_named(rt, name, given, console) {
+        Ok(Some(status)) => flushed(status, console),
         Ok(None) => Err(mistake(rt.alloc(), no_command(command))),
         Err(failure) => Err(failure),
     };
@@ -197,30 +194,29 @@ fn run_named<'a, W: Write, E: Write>(
     rt: &'a HostRuntime,
     name: &str,
     given: &ArgMatches<'a>,
-    out: &mut W,
-    err: &mut E,
+    console: &mut Console<W, E>,
 ) -> Result<Option<u8>, Failure>
     ensures { IfOk result (λ done. IfSome done (λ status. status ≤ MEMORY)) }
 {
     let done = match name {
-        "packets" => list(rt, word(given, "FILE"), Lines::Packets, out),
-        "events" => list(rt, word(given, "FILE"), Lines::Events, out),
-        "minus" => minus(rt, given, out),
-        "replay" => replay(rt, given, out, err),
-        "follow" => follow(rt, given, out, err),
-        "select" => select(rt, given, out),
-        "load" => load(rt, given, out, err),
-        "clear" => clear(rt, given, out, err),
-        "abandon" => abandon(rt, given, out, err),
-        "show" | "tables" | "info" | "gtids" | "missing" => read(rt, name, given, out, err),
-        "adopt" => adopt(rt, given, out),
-        "admit" => admit(rt, given, out),
-        "skip" => skip(rt, given, out),
+        "packets" => list(rt, word(given, "FILE"), Lines::Packets, &mut console.out),
+        "events" => list(rt, word(given, "FILE"), Lines::Events, &mut console.out),
+        "minus" => minus(rt, given, &mut console.out),
+        "replay" => replay(rt, given, console),
+        "follow" => follow(rt, given, console),
+        "select" => select(rt, given, &mut console.out),
+        "load" => load(rt, given, console),
+        "clear" => clear(rt, given, console),
+        "abandon" => abandon(rt, given, console),
+        "show" | "tables" | "info" | "gtids" | "missing" => read(rt, name, given, console),
+        "adopt" => adopt(rt, given, &mut console.out),
+        "admit" => admit(rt, given, &mut console.out),
+        "skip" => skip(rt, given, &mut console.out),
         "copy" => copy(rt, given),
-        "export" => export(rt, given, err),
-        "verify" => verify(rt, given, out, err),
-        "completions" => completions(given, out),
-        "columns" => columns(rt, given, out),
+        "export" => export(rt, given, &mut console.err),
+        "verify" => verify(rt, given, console),
+        "completions" => completions(given, &mut console.out),
+        "columns" => columns(rt, given, &mut console.out),
         _ => return Ok(None),
     };
     Ok(Some(done?))
@@ -250,41 +246,40 @@ fn read<W: Write, E: Write>(
     rt: &HostRuntime,
     name: &str,
     given: &ArgMatches<'_>,
-    out: &mut W,
-    err: &mut E,
+    console: &mut Console<W, E>,
 ) -> Result<u8, Failure>
     ensures { IfOk result (λ status. status ≤ MEMORY) }
 {
     let done = match name {
-        "tables" => tables(rt, given, out),
-        "info" => info(rt, given, out),
-        "gtids" => gtids(rt, given, out),
-        "missing" => missing(rt, given, out),
-        _ => show(rt, given, out, err),
+        "tables" => tables(rt, given, &mut console.out),
+        "info" => info(rt, given, &mut console.out),
+        "gtids" => gtids(rt, given, &mut console.out),
+        "missing" => missing(rt, given, &mut console.out),
+        _ => show(rt, given, console),
     };
     done?;
-    note_if_absent(rt, word(given, "db"), out, err);
+    note_if_absent(rt, word(given, "db"), console);
     Ok(DONE)
 }
 
 /// Reports if a command that only reads a database has found none.
-pub fn note_if_absent<W: Write, E: Write>(rt: &HostRuntime, db: &str, out: &mut W, err: &mut E) {
+pub fn note_if_absent<W: Write, E: Write>(rt: &HostRuntime, db: &str, console: &mut Console<W, E>) {
     if let Ok(Found::Nothing) = Found::under(rt, db) {
-        let _ = out.flush();
-        note_absent(db, err);
+        let _ = console.out.flush();
+        note_absent(db, &mut console.err);
     }
 }
 
 /// Flushes the output of a command that ends with this status. If that fails, a command with status 0 fails, and any
 /// other keeps its status.
-fn flushed<O: Write, E: Write>(status: u8, out: &mut O, err: &mut E) -> Result<u8, Failure>
+fn flushed<O: Write, E: Write>(status: u8, console: &mut Console<O, E>) -> Result<u8, Failure>
     ensures { status ≤ MEMORY → IfOk result (λ s. s ≤ MEMORY) }
 {
-    match out.flush() {
+    match console.out.flush() {
         Ok(()) => Ok(status),
         Err(cause) if status == DONE => Err(Failure::Output(cause)),
         Err(cause) => {
-            write_failure(Err(Failure::Output(cause)), err);
+            write_failure(Err(Failure::Output(cause)), &mut console.err);
             Ok(status)
         }
     }

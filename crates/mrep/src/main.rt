@@ -1,7 +1,6 @@
 //! `mrep`, a MySQL replication follower, with one command for each run.
 //!
-//! `command` does the work, with the arguments and the two output streams that it is given; `main` gives it those of
-//! the process.
+//! `command` does the work, with the arguments and the console that it is given; `main` gives it those of the process.
 #![tactic(auto)]
 
 mod commands;
@@ -12,6 +11,7 @@ mod report;
 mod stack_room;
 
 use crate::commands::command;
+use crate::report::console::Console;
 use crate::report::failure::{MEMORY, USAGE};
 use crate::stack_room::has_room;
 use formats::Screen;
@@ -63,8 +63,11 @@ fn run_words(rt: &HostRuntime) -> io::Result<u8> {
         return Err(io::ErrorKind::OutOfMemory.into());
     }
     let is_terminal = rt.stdout().is_terminal();
-    let mut out = Screen::new(BufWriter::new(rt.alloc(), rt.stdout())?, is_terminal);
-    Ok(command(rt, words.as_slice(), &mut out, &mut rt.stderr()))
+    let mut console = Console {
+        out: Screen::new(BufWriter::new(rt.alloc(), rt.stdout())?, is_terminal),
+        err: rt.stderr(),
+    };
+    Ok(command(rt, words.as_slice(), &mut console))
 }
 
 fn main(rt: HostRuntime) -> ExitCode {

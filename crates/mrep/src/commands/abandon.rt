@@ -6,6 +6,7 @@ use crate::commands::clear::{TableToClear, clear_reported, print_table};
 use crate::commands::skip::{outcome, record};
 use crate::database::open::closed;
 use crate::database::reading::list_in;
+use crate::report::console::Console;
 use crate::report::failure::{DONE, Failure, over_argument, unusable};
 use crate::report::wanted::Wanted;
 use clap::ArgMatches;
@@ -25,8 +26,7 @@ const FINISHED: &str = "no first copy of tables is unfinished";
 pub fn abandon<W: Write, E: Write>(
     rt: &HostRuntime,
     given: &ArgMatches<'_>,
-    out: &mut W,
-    err: &mut E,
+    console: &mut Console<W, E>,
 ) -> Result<u8, Failure>
     ensures { IfOk result (λ status. status ≡ DONE) }
 {
@@ -37,7 +37,7 @@ pub fn abandon<W: Write, E: Write>(
     }
     let mut executed = ExecutedSet::new(rt.alloc());
     list_in(rt, wanted.db, &mut executed)??;
-    give_up(rt, &wanted, &executed.found(), tables, out, err)?;
+    give_up(rt, &wanted, &executed.found(), tables, console)?;
     Ok(DONE)
 }
 
@@ -47,22 +47,21 @@ fn give_up<W: Write, E: Write>(
     wanted: &Wanted<'_, '_>,
     executed: &GtidSet,
     tables: &[&str],
-    out: &mut W,
-    err: &mut E,
+    console: &mut Console<W, E>,
 ) -> Result<(), Failure> {
     let Some(source) = unfinished_copy(executed) else {
         return Err(unusable(rt.alloc(), wanted.db, FINISHED));
     };
-    mark(rt, wanted, given_up_mark(source), out, err)?;
+    mark(rt, wanted, given_up_mark(source), console)?;
     let mut number = given_up_mark(source).number;
     for word in tables {
         number = free_below(executed, source, number);
         let Some(gtid) = Gtid::new(source, number) else {
             return Err(Failure::Memory);
         };
-        clear_table(rt, wanted, word, gtid, executed, out, err)?;
+        clear_table(rt, wanted, word, gtid, executed, console)?;
     }
-    mark(rt, wanted, ended_mark(source), out, err)
+    mark(rt, wanted, ended_mark(source), console)
 }
 
 /// The greatest number below this one that is not executed of a source.
@@ -86,8 +85,7 @@ fn clear_table<W: Write, E: Write>(
     word: &str,
     gtid: Gtid,
     at: &GtidSet,
-    out: &mut W,
-    err: &mut E,
+    console: &mut Console<W, E>,
 ) -> Result<(), Failure> {
     let (schema, name) = over_argument(rt.alloc(), parse_table(rt.alloc(), word))?;
     let what = TableToClear {
@@ -97,11 +95,11 @@ fn clear_table<W: Write, E: Write>(
         at,
         is_copy: true,
     };
-    let rows = clear_reported(rt, wanted, what, out, err)?;
+    let rows = clear_reported(rt, wanted, what, console)?;
     if wanted.feeds_output() {
-        print_table(&schema, &name, rows, err)?;
+        print_table(&schema, &name, rows, &mut console.err)?;
     } else {
-        print_table(&schema, &name, rows, out)?;
+        print_table(&schema, &name, rows, &mut console.out)?;
     }
     Ok(())
 }
@@ -111,13 +109,18 @@ fn mark<W: Write, E: Write>(
     rt: &HostRuntime,
     wanted: &Wanted<'_, '_>,
     gtid: Gtid,
-    out: &mut W,
-    err: &mut E,
+    console: &mut Console<W, E>,
 ) -> Result<(), Failure> {
     let (kept, _) = wanted.kept_for_copy(rt)?;
-    let (pulse, reports) = wanted.reports(rt, None, &[], err)?;
+    let (pulse, reports) = wanted.reports(rt, None, &[], &mut console.err)?;
     let reports = wanted.unless_anew(rt, kept, reports)?;
-    let mut watch = Watch::new(wanted.copy_source(rt), &pulse, reports, out, err);
+    let mut watch = Watch::new(
+        wanted.copy_source(rt),
+        &pulse,
+        reports,
+        &mut console.out,
+        &mut console.err,
+    );
     let done = record(rt, wanted.db, Unknown, gtid, &mut watch);
     let (done, watch) = wanted.unless_failed(done, watch)?;
     let stopped = wanted.stopped(rt.alloc(), watch.stop());

@@ -7,6 +7,7 @@ ghost use Rattle.replica.specs.ClearFile.{ClearsFile};
 ghost use Rattle.replica.specs.File.{OfHeld};
 
 use crate::database::open::{closed, opening, unopened_database};
+use crate::report::console::Console;
 use crate::report::failure::{
     DONE, Failure, MEMORY, of_database, of_other_tables, over_argument, unusable, write_failure,
 };
@@ -33,8 +34,7 @@ const GAP: &str =
 pub fn clear<W: Write, E: Write>(
     rt: &HostRuntime,
     given: &ArgMatches<'_>,
-    out: &mut W,
-    err: &mut E,
+    console: &mut Console<W, E>,
 ) -> Result<u8, Failure>
     ensures { IfOk result (λ status. status ≤ MEMORY) }
 {
@@ -51,14 +51,14 @@ pub fn clear<W: Write, E: Write>(
         at: &at,
         is_copy: false,
     };
-    let rows = clear_reported(rt, &wanted, clear, out, err)?;
+    let rows = clear_reported(rt, &wanted, clear, console)?;
     if rows.is_some() && has_gap_below(at.spans(), gtid) {
-        let _ = writeln!(err, "mrep: {}: {GAP}", Shown(wanted.db));
+        let _ = writeln!(console.err, "mrep: {}: {GAP}", Shown(wanted.db));
     }
     if wanted.feeds_output() {
-        print(rows, err)?;
+        print(rows, &mut console.err)?;
     } else {
-        print(rows, out)?;
+        print(rows, &mut console.out)?;
     }
     Ok(DONE)
 }
@@ -94,12 +94,11 @@ pub fn clear_reported<W: Write, E: Write>(
     rt: &HostRuntime,
     wanted: &Wanted<'_, '_>,
     what: TableToClear<'_>,
-    out: &mut W,
-    err: &mut E,
+    console: &mut Console<W, E>,
 ) -> Result<Option<u64>, Failure> {
-    let (pulse, reports) = wanted.reports(rt, None, &[], err)?;
+    let (pulse, reports) = wanted.reports(rt, None, &[], &mut console.err)?;
     let source = wanted.clear_source(rt, what.is_copy, (what.schema, what.name));
-    let mut watch = Watch::new(source, &pulse, reports, out, err);
+    let mut watch = Watch::new(source, &pulse, reports, &mut console.out, &mut console.err);
     let done = clear_in(rt, wanted.db, Unknown, what, &mut watch);
     let (done, watch) = wanted.unless_failed(done, watch)?;
     let alloc = rt.alloc();
@@ -109,7 +108,7 @@ pub fn clear_reported<W: Write, E: Write>(
     match rows_of(alloc, wanted.db, end, stopped) {
         Ok(rows) => cleared.map(|()| rows),
         Err(failure) => {
-            write_failure(cleared, err);
+            write_failure(cleared, &mut console.err);
             Err(failure)
         }
     }

@@ -8,6 +8,7 @@ ghost use Rattle.replica.specs.FollowFile.{FollowsFile};
 
 use crate::commands::account::{Address, Options, password_of, secret_of, user_of, warn};
 use crate::database::open::{closed, opening, unopened_database};
+use crate::report::console::Console;
 use crate::report::failure::{
     Failure, FailureKind, MEMORY, named, of_system, over_argument, write_failure,
 };
@@ -50,14 +51,13 @@ const OTHER_ACCOUNT: &str =
 pub fn follow<W: Write, E: Write>(
     rt: &HostRuntime,
     given: &ArgMatches<'_>,
-    out: &mut W,
-    err: &mut E,
+    console: &mut Console<W, E>,
 ) -> Result<u8, Failure>
     ensures { IfOk result (λ status. status ≤ MEMORY) }
 {
     let options = Options::of(rt, given)?;
     let place = Address::of(rt, given, &options)?;
-    follow_place(rt, given, &options, &place, out, err)
+    follow_place(rt, given, &options, &place, console)
 }
 
 /// Follows the source at a place, as an account that arguments or options give.
@@ -66,23 +66,22 @@ fn follow_place<W: Write, E: Write>(
     given: &ArgMatches<'_>,
     options: &Options,
     place: &Address,
-    out: &mut W,
-    err: &mut E,
+    console: &mut Console<W, E>,
 ) -> Result<u8, Failure>
     ensures { IfOk result (λ status. status ≤ MEMORY) }
 {
     let wanted = Wanted::of(rt.alloc(), given)?;
     let following = Following::of(rt, given, options, &wanted)?;
     let secret = secret_of(rt.alloc(), given, options)?;
-    warn(rt, secret.as_str(), err);
-    let (pulse, reports) = wanted.reports(rt, None, &[secret.as_str()], err)?;
+    warn(rt, secret.as_str(), &mut console.err);
+    let (pulse, reports) = wanted.reports(rt, None, &[secret.as_str()], &mut console.err)?;
     let host = Host {
         rt,
         name: place.host.as_str(),
         port: place.port,
         pulse: &pulse,
     };
-    follow_host(host, &wanted, following, reports, out, err)
+    follow_host(host, &wanted, following, reports, console)
 }
 
 /// Follows the source at a host, and prints how the connection ended.
@@ -91,8 +90,7 @@ fn follow_host<W: Write, E: Write>(
     wanted: &Wanted<'_, '_>,
     following: Following,
     reports: Reports,
-    out: &mut W,
-    err: &mut E,
+    console: &mut Console<W, E>,
 ) -> Result<u8, Failure>
     ensures { IfOk result (λ status. status ≤ MEMORY) }
 {
@@ -103,23 +101,29 @@ fn follow_host<W: Write, E: Write>(
         pulse,
     } = host;
     let streams = [name];
-    let watch = Watch::new(wanted.source(rt, &streams, port), pulse, reports, out, err);
+    let watch = Watch::new(
+        wanted.source(rt, &streams, port),
+        pulse,
+        reports,
+        &mut console.out,
+        &mut console.err,
+    );
     let (followed, watch) = follow_until(host, wanted.db, following, watch);
     let (end, done) = match followed {
         Ok(followed) => concluded(rt.alloc(), wanted, name, followed, watch),
         Err(failure) => {
             watch.discard(wanted.feed_name());
-            pulse.not_begun(rt, NOT_OPENED, err);
+            pulse.not_begun(rt, NOT_OPENED, &mut console.err);
             return Err(failure);
         }
     };
     match end {
         Ok(end) => {
-            note_source(name, port, &end, err);
-            status_after(counted(&[end], &done), done, err)
+            note_source(name, port, &end, &mut console.err);
+            status_after(counted(&[end], &done), done, &mut console.err)
         }
         Err(failure) => {
-            write_failure(done, err);
+            write_failure(done, &mut console.err);
             Err(failure)
         }
     }

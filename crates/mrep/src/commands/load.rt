@@ -10,6 +10,7 @@ ghost use Rattle.replica.specs.LoadFile.{LoadsFile};
 use crate::commands::clear::failure_of;
 use crate::database::copied_rows::CopyFile;
 use crate::database::open::{closed, opening, unopened_database};
+use crate::report::console::Console;
 use crate::report::failure::{
     DONE, Failure, MEMORY, of_copy, of_database, of_unloadable, unusable, write_failure,
 };
@@ -34,14 +35,13 @@ const CHANGED: &str =
 pub fn load<W: Write, E: Write>(
     rt: &HostRuntime,
     given: &ArgMatches<'_>,
-    out: &mut W,
-    err: &mut E,
+    console: &mut Console<W, E>,
 ) -> Result<u8, Failure>
     ensures { IfOk result (λ status. status ≤ MEMORY) }
 {
     let wanted = Wanted::of(rt.alloc(), given)?;
     let file = CopyFile::of(rt, given, "COPY")?;
-    load_copy(rt, &wanted, &file, out, err)?;
+    load_copy(rt, &wanted, &file, console)?;
     Ok(DONE)
 }
 
@@ -50,11 +50,10 @@ fn load_copy<W: Write, E: Write>(
     rt: &HostRuntime,
     wanted: &Wanted<'_, '_>,
     file: &CopyFile<'_>,
-    out: &mut W,
-    err: &mut E,
+    console: &mut Console<W, E>,
 ) -> Result<(), Failure> {
     let (summary, size) = file.summary(rt)?;
-    load_summary(rt, wanted, file, &summary, size, out, err)
+    load_summary(rt, wanted, file, &summary, size, console)
 }
 
 /// Loads the copy that was read, and prints its tables.
@@ -64,14 +63,13 @@ fn load_summary<W: Write, E: Write>(
     file: &CopyFile<'_>,
     summary: &Summary,
     size: u64,
-    out: &mut W,
-    err: &mut E,
+    console: &mut Console<W, E>,
 ) -> Result<(), Failure> {
-    load_rows(rt, wanted, file, summary, size, out, err)?;
+    load_rows(rt, wanted, file, summary, size, console)?;
     if wanted.feeds_output() {
-        summary.print(err)?;
+        summary.print(&mut console.err)?;
     } else {
-        summary.print(out)?;
+        summary.print(&mut console.out)?;
     }
     Ok(())
 }
@@ -83,15 +81,20 @@ fn load_rows<W: Write, E: Write>(
     file: &CopyFile<'_>,
     summary: &Summary,
     size: u64,
-    out: &mut W,
-    err: &mut E,
+    console: &mut Console<W, E>,
 ) -> Result<(), Failure> {
     let (kept, own) = wanted.kept_for_copy(rt)?;
     let only = wanted.only_for(rt.alloc(), kept, own)?;
-    let (pulse, reports) = wanted.reports(rt, Some(size), &[file.name], err)?;
+    let (pulse, reports) = wanted.reports(rt, Some(size), &[file.name], &mut console.err)?;
     let reports = wanted.unless_anew(rt, kept, reports)?;
     let rows = file.rows(rt, summary, &pulse)?;
-    let mut watch = Watch::new(wanted.copy_source(rt), &pulse, reports, out, err);
+    let mut watch = Watch::new(
+        wanted.copy_source(rt),
+        &pulse,
+        reports,
+        &mut console.out,
+        &mut console.err,
+    );
     let done = load_into(
         rt,
         wanted.db,
@@ -103,8 +106,15 @@ fn load_rows<W: Write, E: Write>(
     );
     let (done, watch) = wanted.unless_failed(done, watch)?;
     let stopped = wanted.stopped(rt.alloc(), watch.stop());
-    report_end(rt, &pulse, size, done.applied, err);
-    concluded(rt.alloc(), wanted.db, file.name, done, stopped, err)
+    report_end(rt, &pulse, size, done.applied, &mut console.err);
+    concluded(
+        rt.alloc(),
+        wanted.db,
+        file.name,
+        done,
+        stopped,
+        &mut console.err,
+    )
 }
 
 /// What a load comes to: `db` is the name of the database, `name` that of the copy. If it was not done, a failure of closing the

@@ -7,6 +7,7 @@ ghost use Rattle.replica.specs.File.{OfHeld};
 ghost use Rattle.replica.specs.Replay.{Replays};
 
 use crate::database::open::{closed, opening, unopened_database};
+use crate::report::console::Console;
 use crate::report::failure::{Failure, MEMORY, of_system, write_failure};
 use crate::report::status::{counted, status_after};
 use crate::report::wanted::{Wanted, waited};
@@ -35,13 +36,12 @@ const LOG_FILE: &str =
 pub fn replay<W: Write, E: Write>(
     rt: &HostRuntime,
     given: &ArgMatches<'_>,
-    out: &mut W,
-    err: &mut E,
+    console: &mut Console<W, E>,
 ) -> Result<u8, Failure>
     ensures { IfOk result (λ status. status ≤ MEMORY) }
 {
     let streams = given.get_strs("STREAM").unwrap_or(&[]);
-    replay_streams(rt, Wanted::of(rt.alloc(), given)?, streams, out, err)
+    replay_streams(rt, Wanted::of(rt.alloc(), given)?, streams, console)
 }
 
 /// All streams are opened and their first bytes are read before the database is opened.
@@ -49,12 +49,11 @@ fn replay_streams<W: Write, E: Write>(
     rt: &HostRuntime,
     wanted: Wanted<'_, '_>,
     names: &[&str],
-    out: &mut W,
-    err: &mut E,
+    console: &mut Console<W, E>,
 ) -> Result<u8, Failure>
     ensures { IfOk result (λ status. status ≤ MEMORY) }
 {
-    let (done, stopped) = replay_reported(rt, &wanted, names, out, err)?;
+    let (done, stopped) = replay_reported(rt, &wanted, names, console)?;
     let Replayed {
         ends,
         read,
@@ -62,13 +61,13 @@ fn replay_streams<W: Write, E: Write>(
     } = done;
     let read = match read {
         Err(Halt::Reader(cause)) => {
-            write_failure(stopped, err);
+            write_failure(stopped, &mut console.err);
             Err(unread(rt.alloc(), names, ends.len(), cause))
         }
         Ok(()) | Err(Halt::Observer) => stopped,
     };
     let done = read.and(closed(rt.alloc(), wanted.db, files));
-    status_after(counted(&ends, &done), done, err)
+    status_after(counted(&ends, &done), done, &mut console.err)
 }
 
 /// Reads the streams, with the reports that are wanted. Returns what that has done, and whether it was stopped for a report, or
@@ -77,13 +76,18 @@ fn replay_reported<W: Write, E: Write>(
     rt: &HostRuntime,
     wanted: &Wanted<'_, '_>,
     names: &[&str],
-    out: &mut W,
-    err: &mut E,
+    console: &mut Console<W, E>,
 ) -> Result<(Replayed<File>, Result<(), Failure>), Failure> {
-    note_log_files(rt, names, err);
+    note_log_files(rt, names, &mut console.err);
     let reading = Replaying::of(rt, wanted, names)?;
-    let (pulse, reports) = wanted.reports(rt, reading.total, names, err)?;
-    let watch = Watch::new(wanted.source(rt, names, 0), &pulse, reports, out, err);
+    let (pulse, reports) = wanted.reports(rt, reading.total, names, &mut console.err)?;
+    let watch = Watch::new(
+        wanted.source(rt, names, 0),
+        &pulse,
+        reports,
+        &mut console.out,
+        &mut console.err,
+    );
     replay_watched(rt, wanted, reading, watch)
 }
 

@@ -2,6 +2,7 @@
 
 use crate::database::description::read_tables;
 use crate::database::printer::{Selection, print_rows, print_tallies};
+use crate::report::console::Console;
 use crate::report::failure::{Failure, of_argument, over_argument};
 use clap::ArgMatches;
 use command_line::{ArgumentFault, parse_encoding, parse_tables, word};
@@ -44,8 +45,7 @@ fn size_of(rt: &HostRuntime, name: &str) -> u64 {
 pub fn show<W: Write, E: Write>(
     rt: &HostRuntime,
     given: &ArgMatches<'_>,
-    out: &mut W,
-    err: &mut E,
+    console: &mut Console<W, E>,
 ) -> Result<(), Failure> {
     let alloc = rt.alloc();
     let format = format_of(given.get_str("format"));
@@ -71,8 +71,8 @@ pub fn show<W: Write, E: Write>(
         word(given, "db"),
         selection,
         described.as_ref(),
-        out,
-        err,
+        &mut console.out,
+        &mut console.err,
     )
 }
 

@@ -6,6 +6,7 @@ use crate::commands::note_if_absent;
 use crate::commands::show::show_rows;
 use crate::database::description::read_tables;
 use crate::database::printer::Selection;
+use crate::report::console::Console;
 use crate::report::failure::{DONE, Failure, MEMORY, REFUSED, of_system, of_tables, over_argument};
 use binlog::Follow;
 use clap::ArgMatches;
@@ -21,8 +22,7 @@ use std::io::{Read, Write};
 pub fn verify<W: Write, E: Write>(
     rt: &HostRuntime,
     given: &ArgMatches<'_>,
-    out: &mut W,
-    err: &mut E,
+    console: &mut Console<W, E>,
 ) -> Result<u8, Failure>
     ensures { IfOk result (λ status. status ≤ MEMORY) }
 {
@@ -31,12 +31,12 @@ pub fn verify<W: Write, E: Write>(
     let only = over_argument(rt.alloc(), only)?;
     let described = described(rt, word(given, "columns"), &only)?;
     let text = read_text(rt, file)?;
-    let printed = printed(rt, db, only, described, out, err)?;
-    let found = compare(rt.alloc(), &text, &printed, out)?;
+    let printed = printed(rt, db, only, described, console)?;
+    let found = compare(rt.alloc(), &text, &printed, &mut console.out)?;
     if found.are_none() {
         return Ok(DONE);
     }
-    found.note(file, db, err);
+    found.note(file, db, &mut console.err);
     Ok(REFUSED)
 }
 
@@ -55,8 +55,7 @@ fn printed<W: Write, E: Write>(
     db: &str,
     only: Follow,
     described: DescribedTables,
-    out: &mut W,
-    err: &mut E,
+    console: &mut Console<W, E>,
 ) -> Result<Vec<u8>, Failure> {
     let selection = Selection {
         chosen: Chosen::new(rt.alloc(), only)?,
@@ -64,9 +63,16 @@ fn printed<W: Write, E: Write>(
         encoding: Encoding::Base64,
     };
     let mut rows = Vec::new(rt.alloc());
-    match show_rows(rt, db, selection, Some(&described), &mut rows, err) {
+    match show_rows(
+        rt,
+        db,
+        selection,
+        Some(&described),
+        &mut rows,
+        &mut console.err,
+    ) {
         Ok(()) => {
-            note_if_absent(rt, db, out, err);
+            note_if_absent(rt, db, console);
             Ok(rows)
         }
         Err(failure) => Err(failure),
