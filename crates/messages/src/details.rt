@@ -126,16 +126,27 @@ impl Details {
         can_skip: bool,
         err: &mut E,
     ) -> io::Result<()> {
-        write_begin(stream, err)?;
-        writeln!(err, "in transaction {gtid}")?;
+        writeln!(err, "mrep: {}: in transaction {gtid}", Shown(stream))?;
         match self.ways(can_skip) {
             Ways::None => Ok(()),
             Ways::Skip => write_skip(stream, SKIP, given, gtid, err),
             Ways::SkipOrClear => {
                 write_skip(stream, SKIP_DEFINITION, given, gtid, err)?;
-                write_clear(stream, given, gtid, self.executed_text().as_ref(), err)
+                self.write_clear(stream, given, gtid, err)
             }
         }
+    }
+
+    /// Writes how a table is cleared whose rows a statement has changed.
+    fn write_clear<E: Write>(
+        &self,
+        stream: &str,
+        given: Given<'_>,
+        gtid: Gtid,
+        err: &mut E,
+    ) -> io::Result<()> {
+        let executed = self.executed_text();
+        write_clear(stream, given, gtid, executed.as_ref(), err)
     }
 
     /// The text of the executed set, if it is known.
@@ -196,8 +207,12 @@ fn write_skip<E: Write>(
     gtid: Gtid,
     err: &mut E,
 ) -> io::Result<()> {
-    write_begin(stream, err)?;
-    write!(err, "{purpose}: mrep skip --db {}", Quoted(given.db))?;
+    write!(
+        err,
+        "mrep: {}: {purpose}: mrep skip --db {}",
+        Shown(stream),
+        Quoted(given.db)
+    )?;
     write_feed(given, err)?;
     writeln!(err, " {gtid}")
 }
@@ -207,11 +222,8 @@ fn write_feed<E: Write>(given: Given<'_>, err: &mut E) -> io::Result<()> {
     let Some(feed) = given.feed else {
         return Ok(());
     };
-    write!(err, " --changes {}", Quoted(feed))?;
-    if given.has_chain {
-        err.write_all(b" --chain")?;
-    }
-    Ok(())
+    let chain = if given.has_chain { " --chain" } else { "" };
+    write!(err, " --changes {}{chain}", Quoted(feed))
 }
 
 /// Writes how a table is cleared whose rows a statement has changed, after this set; where it is not known, it is what the
@@ -223,26 +235,24 @@ fn write_clear<E: Write>(
     executed: Option<&String>,
     err: &mut E,
 ) -> io::Result<()> {
-    write_begin(stream, err)?;
     let db = Quoted(given.db);
+    let (only, then) = match given.feed {
+        Some(_) => (" --feed-only", NO_ROWS_BACK),
+        None => ("", THEN_LOAD),
+    };
     write!(
         err,
-        "if it alters or empties a followed table: mrep clear --db {db}"
+        "mrep: {}: if it alters or empties a followed table: mrep clear --db {db}{only}",
+        Shown(stream)
     )?;
-    if given.feed.is_some() {
-        err.write_all(b" --feed-only")?;
-    }
     write_feed(given, err)?;
-    write!(err, " --gtid {gtid} --at ")?;
     match executed {
-        Some(set) => write!(err, "'{set}'")?,
-        None => write!(err, "\"$(mrep gtids --db {db})\"")?,
+        Some(set) => writeln!(err, " --gtid {gtid} --at '{set}' SCHEMA.TABLE{then}"),
+        None => writeln!(
+            err,
+            " --gtid {gtid} --at \"$(mrep gtids --db {db})\" SCHEMA.TABLE{then}"
+        ),
     }
-    let then = match given.feed {
-        Some(_) => NO_ROWS_BACK,
-        None => THEN_LOAD,
-    };
-    writeln!(err, " SCHEMA.TABLE{then}")
 }
 
 /// Writes the statement of a QUERY event that is not supported, or the table and the column of a table map that is not.
@@ -270,39 +280,32 @@ fn write_column(place: &ColumnPlace<'_>, out: &mut Vec<u8>) -> io::Result<()> {
 
 /// Writes the first bytes of a statement, of one with a password up to the word before it.
 fn write_statement(text: &[u8], out: &mut Vec<u8>) -> io::Result<()> {
-    out.write_all(b"the statement is: ")?;
-    let shown = match secret_in(text) {
-        Some(at) => at.min(SHOWN),
-        None => SHOWN,
+    let (shown, end) = match text.split_at_checked(most_of(text)) {
+        Some((head, [_, ..])) => (head, "...\n"),
+        _ => (text, "\n"),
     };
-    match text.split_at_checked(shown) {
-        Some((head, [_, ..])) => {
-            write_escaped(head, out)?;
-            out.write_all(b"...\n")
-        }
-        _ => {
-            write_escaped(text, out)?;
-            writeln!(out)
-        }
-    }
+    out.write_all(b"the statement is: ")?;
+    write_escaped(shown, out)?;
+    out.write_all(end.as_bytes())
 }
 
-/// Where a statement may have a password: after the first word that comes before one.
-fn secret_in(text: &[u8]) -> Option<usize> {
-    let mut found = None;
+/// How many bytes of a statement are printed at most: of one that may have a password those up to the first word that comes before
+/// one.
+fn most_of(text: &[u8]) -> usize {
+    let mut most = SHOWN;
     for word in SECRETS {
         let at = text
             .windows(word.len())
             .position(|part| part.eq_ignore_ascii_case(word));
         if let Some(at) = at {
-            let end = at.saturating_add(word.len());
-            found = Some(found.map_or(end, |other: usize| other.min(end)));
+            most = most.min(at.saturating_add(word.len()));
         }
     }
-    found
+    most
 }
 
-fn write_place(schema: &[u8], table: &[u8], out: &mut Vec<u8>) -> io::Result<()> {
+/// Writes the name of a table in a message.
+pub fn write_place(schema: &[u8], table: &[u8], out: &mut Vec<u8>) -> io::Result<()> {
     out.write_all(b"table ")?;
     write_table(schema, table, out)
 }

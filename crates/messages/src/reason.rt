@@ -36,7 +36,7 @@ pub fn write_reason<W: Write>(reason: &Reason, out: &mut W) -> io::Result<()> {
         Reason::Gather(GatherFault::Event(fault)) => {
             write!(out, "Gather.{}", event_reason(fault.kind))
         }
-        other => write!(out, "{}", plain_reason(other)),
+        other => out.write_all(plain_reason(other).as_bytes()),
     }
 }
 
@@ -102,25 +102,25 @@ fn write_refusal<W: Write>(stream: Shown<'_>, refusal: Refusal, out: &mut W) -> 
 
 /// Writes what has stopped the command before a transaction.
 fn write_halted<W: Write>(stream: Shown<'_>, halt: HaltCause<'_>, out: &mut W) -> io::Result<()> {
-    write!(out, "mrep: {stream}: stopped before a transaction, since ")?;
-    match halt {
-        HaltCause::Output => {
-            out.write_all(b"its changes could not be written to standard output\n")
-        }
-        HaltCause::Feed(feed) => writeln!(
-            out,
-            "its changes could not be written to {}",
-            Shown(feed)
+    let (why, feed) = match halt {
+        HaltCause::Output => ("its changes could not be written to standard output", ""),
+        HaltCause::Feed(feed) => ("its changes could not be written to ", feed),
+        HaltCause::Misfit => (
+            "a row of it does not fit the description of its columns",
+            "",
         ),
-        HaltCause::Misfit => {
-            out.write_all(b"a row of it does not fit the description of its columns\n")
-        }
-        HaltCause::Memory => out.write_all(b"memory ran out for the set that is waited for\n"),
-        HaltCause::Unfinished => out.write_all(b"a first copy of tables is unfinished\n"),
-        HaltCause::Kept => {
-            out.write_all(b"the database or its file of changes is another than asked for\n")
-        }
-    }
+        HaltCause::Memory => ("memory ran out for the set that is waited for", ""),
+        HaltCause::Unfinished => ("a first copy of tables is unfinished", ""),
+        HaltCause::Kept => (
+            "the database or its file of changes is another than asked for",
+            "",
+        ),
+    };
+    writeln!(
+        out,
+        "mrep: {stream}: stopped before a transaction, since {why}{}",
+        Shown(feed)
+    )
 }
 
 /// Writes the message of a source.

@@ -1,8 +1,9 @@
 //! The row of a change that is refused, in a message.
 
-use crate::details::{SHOWN, row_of};
-use columns::{DescribedTable, Key};
-use formats::{Shown, write_table};
+use crate::details::{SHOWN, row_of, write_place};
+use binlog::Cell;
+use columns::{Column, DescribedTable, Key};
+use formats::Shown;
 use gather::{Change, ImageRef};
 use rows::{
     DescribedTables, ShownCell, TextError, check_count, has_key, show, write_bare, write_binary,
@@ -39,20 +40,17 @@ fn write_row<'d>(
     line: &mut Vec<u8>,
 ) -> Result<(), TextError<'d>> {
     check_count(table, row)?;
-    line.write_all(b"table ")?;
-    write_table(table.schema.as_bytes(), table.name.as_bytes(), line)?;
+    write_place(table.schema.as_bytes(), table.name.as_bytes(), line)?;
     if has_key(table) {
-        line.write_all(b", key ")?;
         write_cells(alloc, table, row, true, line)?;
     }
-    line.write_all(b", row ")?;
     write_cells(alloc, table, row, false, line)?;
     line.write_all(b"\n")?;
     Ok(())
 }
 
-/// Writes the first cells of a row, or those of its key, with the names of their columns, until they have as many bytes as a
-/// message has of a row. What is left out is `...`.
+/// Writes `row` or `key` and the first cells of it, with the names of their columns, until they have as many bytes as a message
+/// has of a row. What is left out is `...`.
 fn write_cells<'d>(
     alloc: Global,
     table: &'d DescribedTable,
@@ -60,6 +58,7 @@ fn write_cells<'d>(
     is_key: bool,
     line: &mut Vec<u8>,
 ) -> Result<(), TextError<'d>> {
+    line.write_all(if is_key { b", key " } else { b", row " })?;
     let end = line.len().saturating_add(SHOWN);
     let mut is_first = true;
     for (cell, column) in row.cells().zip(table.columns.iter()) {
@@ -73,24 +72,37 @@ fn write_cells<'d>(
             line.write_all(b"...")?;
             return Ok(());
         }
-        write!(line, "{}=", Shown(column.name.as_str()))?;
-        match show(alloc, column, cell) {
-            Ok(shown) => write_short(&shown, line)?,
-            Err(error) => return Err(TextError::at(column, error)),
-        }
+        write_cell(alloc, column, cell, line)?;
         is_first = false;
     }
     Ok(())
+}
+
+/// Writes a cell after the name of its column.
+fn write_cell<'d>(
+    alloc: Global,
+    column: &'d Column,
+    cell: Cell<'_>,
+    line: &mut Vec<u8>,
+) -> Result<(), TextError<'d>> {
+    write!(line, "{}=", Shown(column.name.as_str()))?;
+    match show(alloc, column, cell) {
+        Ok(shown) => Ok(write_short(&shown, line)?),
+        Err(error) => Err(TextError::at(column, error)),
+    }
 }
 
 /// Writes a cell, and of a long text or long bytes the first. What is left out is `...`.
 fn write_short(shown: &ShownCell<'_>, line: &mut Vec<u8>) -> io::Result<()> {
     match shown {
         ShownCell::Null => line.write_all(b"NULL"),
-        ShownCell::Text(text) => match head_of(text.as_str()) {
-            Some(head) => write!(line, "{}...", Shown(head)),
-            None => write!(line, "{}", Shown(text.as_str())),
-        },
+        ShownCell::Text(text) => {
+            let (shown, end) = match head_of(text.as_str()) {
+                Some(head) => (head, "..."),
+                None => (text.as_str(), ""),
+            };
+            write!(line, "{}{end}", Shown(shown))
+        }
         ShownCell::Bytes { bytes, .. } if bytes.len() > SHOWN => {
             write_binary(bytes.get(..SHOWN).unwrap_or(bytes), 0, line)?;
             line.write_all(b"...")

@@ -1,7 +1,7 @@
 //! Why a first copy of tables may not be loaded, as a message.
 
 use formats::{Shown, write_named, write_table};
-use replica::Unloadable;
+use replica::{QualifiedName, Unloadable};
 use std::io;
 use std::io::Write;
 
@@ -16,6 +16,15 @@ pub const UNFINISHED: &str =
 /// What to do where a copy was given up.
 pub const GIVEN_UP: &str = "this copy was given up: make a new one";
 
+const LEFT_OUT: &str = "it was made for other tables than ";
+
+const NO_ROWS: &str = "it keeps no rows of ";
+
+const NOT_FIRST: &str =
+    " and has executed transactions, so that nothing says whether the table was copied before: load one copy of all tables into a new database";
+
+const HAS_ROWS: &str = " has rows: clear it first, or export what it has";
+
 /// Writes why a copy may not be loaded, and what to do.
 pub fn write_unloadable<E: Write>(name: &str, why: &Unloadable, err: &mut E) -> io::Result<()> {
     match why {
@@ -23,27 +32,21 @@ pub fn write_unloadable<E: Write>(name: &str, why: &Unloadable, err: &mut E) -> 
         Unloadable::OtherSet => write_named(name, &OTHER_SET, err),
         Unloadable::Unfinished(_) => write_named(name, &UNFINISHED, err),
         Unloadable::GivenUp => write_named(name, &GIVEN_UP, err),
-        Unloadable::LeftOut(table) => {
-            write!(
-                err,
-                "mrep: {}: it was made for other tables than ",
-                Shown(name)
-            )?;
-            write_table(&table.schema, &table.table, err)?;
-            writeln!(err)
-        }
-        Unloadable::NotFirst(table) => {
-            write!(err, "mrep: {}: it keeps no rows of ", Shown(name))?;
-            write_table(&table.schema, &table.table, err)?;
-            writeln!(
-                err,
-                " and has executed transactions, so that nothing says whether the table was copied before: load one copy of all tables into a new database"
-            )
-        }
-        Unloadable::HasRows(table) => {
-            write!(err, "mrep: {}: ", Shown(name))?;
-            write_table(&table.schema, &table.table, err)?;
-            writeln!(err, " has rows: clear it first, or export what it has")
-        }
+        Unloadable::LeftOut(table) => write_of_table(name, LEFT_OUT, table, "", err),
+        Unloadable::NotFirst(table) => write_of_table(name, NO_ROWS, table, NOT_FIRST, err),
+        Unloadable::HasRows(table) => write_of_table(name, "", table, HAS_ROWS, err),
     }
+}
+
+/// Writes a line about a table, after the name of the database.
+fn write_of_table<E: Write>(
+    name: &str,
+    before: &str,
+    table: &QualifiedName,
+    after: &str,
+    err: &mut E,
+) -> io::Result<()> {
+    write!(err, "mrep: {}: {before}", Shown(name))?;
+    write_table(&table.schema, &table.table, err)?;
+    writeln!(err, "{after}")
 }
