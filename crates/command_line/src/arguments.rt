@@ -43,6 +43,8 @@ const NEW_FEED: &[u8] = b"mrep: --new-feed needs --feed-only\n";
 
 const CHAIN: &[u8] = b"mrep: --chain needs --changes FILE, a file on a disk\n";
 
+const MEMORY: &[u8] = b"mrep: out of memory\n";
+
 const NO_COLUMNS: &[u8] = b"mrep: --format tsv and sql need --columns\n";
 
 /// Why arguments are not what they should be.
@@ -96,35 +98,36 @@ pub enum ArgumentFault<'a> {
 impl ArgumentFault<'_> {
     /// Writes the message.
     pub fn write<E: Write>(&self, err: &mut E) -> io::Result<()> {
-        match self {
+        let text = match self {
             ArgumentFault::Set {
                 word,
                 cause,
                 wrong,
                 has_line_feeds,
-            } => write_set(word, *cause, *wrong, *has_line_feeds, err),
-            ArgumentFault::Gtid { word, may_be_set } => write_gtid(word, *may_be_set, err),
-            ArgumentFault::Table { word } => write_named(word, &NO_TABLE, err),
-            ArgumentFault::Schema { word } => write_named(word, &NO_SCHEMA, err),
-            ArgumentFault::Digest { word } => write_named(word, &NO_DIGEST, err),
+            } => return write_set(word, *cause, *wrong, *has_line_feeds, err),
+            ArgumentFault::Gtid { word, may_be_set } => return write_gtid(word, *may_be_set, err),
+            ArgumentFault::Table { word } => return write_named(word, &NO_TABLE, err),
+            ArgumentFault::Schema { word } => return write_named(word, &NO_SCHEMA, err),
+            ArgumentFault::Digest { word } => return write_named(word, &NO_DIGEST, err),
             ArgumentFault::Number {
                 option,
                 word,
                 largest,
             } => {
-                writeln!(
+                return writeln!(
                     err,
                     "mrep: {option}: {}: not a number from 1 to {largest}",
                     Shown(word)
-                )
+                );
             }
-            ArgumentFault::Bytes => err.write_all(NO_BYTES),
-            ArgumentFault::Columns => err.write_all(NO_COLUMNS),
-            ArgumentFault::FeedOnly => err.write_all(FEED_ONLY),
-            ArgumentFault::NewFeed => err.write_all(NEW_FEED),
-            ArgumentFault::Chain => err.write_all(CHAIN),
-            ArgumentFault::Memory => err.write_all(b"mrep: out of memory\n"),
-        }
+            ArgumentFault::Bytes => NO_BYTES,
+            ArgumentFault::Columns => NO_COLUMNS,
+            ArgumentFault::FeedOnly => FEED_ONLY,
+            ArgumentFault::NewFeed => NEW_FEED,
+            ArgumentFault::Chain => CHAIN,
+            ArgumentFault::Memory => MEMORY,
+        };
+        err.write_all(text)
     }
 }
 
@@ -136,17 +139,21 @@ fn write_set<E: Write>(
     has_line_feeds: bool,
     err: &mut E,
 ) -> io::Result<()> {
-    write!(err, "mrep: {}: {cause}", Shown(word))?;
-    if let Some(byte) = wrong {
-        err.write_all(b", where `")?;
-        write_escaped(&[byte], err)?;
-        err.write_all(b"` stands")?;
+    match wrong {
+        Some(byte) => write_wrong(word, cause, byte, err)?,
+        None => write_named(word, &cause, err)?,
     }
-    writeln!(err)?;
     if has_line_feeds {
         return write_named(word, &LINE_FEEDS, err);
     }
     Ok(())
+}
+
+/// Writes why a text is not that of a set, and which byte is wrong.
+fn write_wrong<E: Write>(word: &str, cause: GtidFault, wrong: u8, err: &mut E) -> io::Result<()> {
+    write!(err, "mrep: {}: {cause}, where `", Shown(word))?;
+    write_escaped(&[wrong], err)?;
+    err.write_all(b"` stands\n")
 }
 
 /// Writes that a text is not that of a GTID.

@@ -23,246 +23,237 @@ const FISH_HEAD: &str =
 
 /// Prints the completions of a shell: bash, zsh or fish.
 pub fn write_completions<W: Write>(shell: &str, out: &mut W) -> io::Result<()> {
+    let mut script = Script {
+        out,
+        written: Ok(()),
+    };
     match shell {
-        "zsh" => write_zsh(out),
-        "fish" => write_fish(out),
-        _ => write_bash(out),
+        "zsh" => script.zsh(),
+        "fish" => script.fish(),
+        _ => script.bash(),
     }
+    let Script { written, .. } = script;
+    written
 }
 
-/// Writes a text between single quotes, for each of these shells.
-fn write_quoted<W: Write>(text: &str, out: &mut W) -> io::Result<()> {
-    for byte in text.as_bytes() {
-        match *byte {
-            b'\'' => out.write_all(b"'\\''")?,
-            other => out.write_all(&[other])?,
+/// A script for a shell, and whether all of it could be written so far: after a failure no more is.
+#[derive(Drop)]
+struct Script<'o, W> {
+    out: &'o mut W,
+    written: io::Result<()>,
+}
+
+impl<W: Write> Script<'_, W> {
+    /// Writes a text.
+    fn put(&mut self, text: &str) {
+        if self.written.is_ok() {
+            self.written = self.out.write_all(text.as_bytes());
         }
     }
-    Ok(())
-}
 
-/// Writes words with a blank after each.
-fn write_words<W: Write>(words: &[&str], out: &mut W) -> io::Result<()> {
-    for word in words {
-        write!(out, "{word} ")?;
+    /// Writes a text that stands between single quotes, for each of these shells.
+    fn put_quoted(&mut self, text: &str) {
+        for (at, part) in text.split('\'').enumerate() {
+            self.put(if at == 0 { "" } else { "'\\''" });
+            self.put(part);
+        }
     }
-    Ok(())
-}
 
-/// Writes the names of commands, with a blank after each.
-fn write_names<W: Write>(rows: &[CommandRow], out: &mut W) -> io::Result<()> {
-    for CommandRow(name, ..) in rows {
-        write!(out, "{name} ")?;
+    /// Writes words with a blank after each.
+    fn put_words(&mut self, words: &[&str]) {
+        for word in words {
+            self.put(word);
+            self.put(" ");
+        }
     }
-    Ok(())
-}
 
-/// Writes a function for bash: which words may come at a place, and those of files where none may.
-fn write_bash<W: Write>(out: &mut W) -> io::Result<()> {
-    out.write_all(BASH_HEAD.as_bytes())?;
-    for rows in commands() {
-        write_names(rows, out)?;
+    /// Writes a function for bash: which words may come at a place, and those of files where none may.
+    fn bash(&mut self) {
+        self.put(BASH_HEAD);
+        for rows in commands() {
+            self.names(rows);
+        }
+        self.put("help --help --version' ;;\n");
+        for rows in commands() {
+            self.bash_commands(rows);
+        }
+        self.put(BASH_TAIL);
     }
-    out.write_all(b"help --help --version' ;;\n")?;
-    for rows in commands() {
-        write_bash_commands(rows, out)?;
-    }
-    out.write_all(BASH_TAIL.as_bytes())
-}
 
-/// Writes what may come after each option of a command that has a value, and what else.
-fn write_bash_command<W: Write>(row: &CommandRow, out: &mut W) -> io::Result<()> {
-    let CommandRow(name, _, arguments, _) = row;
-    for argument in *arguments {
-        write_bash_values(name, argument, out)?;
+    /// Writes the names of commands, with a blank after each.
+    fn names(&mut self, rows: &[CommandRow]) {
+        for CommandRow(name, ..) in rows {
+            self.put(name);
+            self.put(" ");
+        }
     }
-    write!(out, "        *:{name}:*) words='")?;
-    for argument in *arguments {
-        write_bash_argument(argument, out)?;
-    }
-    out.write_all(b"--help' ;;\n")
-}
 
-/// Writes what may come after each option of commands that has a value, and what else.
-fn write_bash_commands<W: Write>(rows: &[CommandRow], out: &mut W) -> io::Result<()> {
-    for row in rows {
-        write_bash_command(row, out)?;
+    /// Writes what may come after each option of commands that has a value, and what else.
+    fn bash_commands(&mut self, rows: &[CommandRow]) {
+        for CommandRow(name, _, arguments, _) in rows {
+            self.bash_values(name, arguments);
+            self.put("        *:");
+            self.put(name);
+            self.put(":*) words='");
+            self.bash_arguments(arguments);
+            self.put("--help' ;;\n");
+        }
     }
-    Ok(())
-}
 
-/// Writes what may come after an option of a command, if it has a value.
-fn write_bash_values<W: Write>(command: &str, argument: &Argument, out: &mut W) -> io::Result<()> {
-    let Argument(option, kind, _) = argument;
-    if kind.value().is_none() {
-        return Ok(());
+    /// Writes what may come after each option of a command that has a value.
+    fn bash_values(&mut self, command: &str, arguments: &[Argument]) {
+        for Argument(option, kind, _) in arguments {
+            if kind.value().is_some() {
+                self.put("        *:");
+                self.put(command);
+                self.put(":--");
+                self.put(option);
+                self.put(") words='");
+                self.put_words(kind.words());
+                self.put("' ;;\n");
+            }
+        }
     }
-    write!(out, "        *:{command}:--{option}) words='")?;
-    write_words(kind.words(), out)?;
-    out.write_all(b"' ;;\n")
-}
 
-/// Writes an option, or the words of which another argument is one.
-fn write_bash_argument<W: Write>(argument: &Argument, out: &mut W) -> io::Result<()> {
-    let Argument(option, kind, _) = argument;
-    if kind.is_option() {
-        return write!(out, "--{option} ");
+    /// Writes each option, or the words of which another argument is one.
+    fn bash_arguments(&mut self, arguments: &[Argument]) {
+        for Argument(option, kind, _) in arguments {
+            if kind.is_option() {
+                self.put("--");
+                self.put(option);
+                self.put(" ");
+            } else {
+                self.put_words(kind.words());
+            }
+        }
     }
-    write_words(kind.words(), out)
-}
 
-/// Writes a function for zsh.
-fn write_zsh<W: Write>(out: &mut W) -> io::Result<()> {
-    out.write_all(ZSH_HEAD.as_bytes())?;
-    for rows in commands() {
-        write_zsh_names(rows, out)?;
+    /// Writes a function for zsh.
+    fn zsh(&mut self) {
+        self.put(ZSH_HEAD);
+        for rows in commands() {
+            self.zsh_names(rows);
+        }
+        self.put(ZSH_MIDDLE);
+        for rows in commands() {
+            self.zsh_commands(rows);
+        }
+        self.put(ZSH_TAIL);
     }
-    out.write_all(ZSH_MIDDLE.as_bytes())?;
-    for rows in commands() {
-        write_zsh_commands(rows, out)?;
-    }
-    out.write_all(ZSH_TAIL.as_bytes())
-}
 
-/// Writes a command and its help.
-fn write_zsh_name<W: Write>(row: &CommandRow, out: &mut W) -> io::Result<()> {
-    let CommandRow(name, about, ..) = row;
-    write!(out, "        '{name}:")?;
-    write_quoted(about, out)?;
-    out.write_all(b"'\n")
-}
+    /// Writes commands and their help.
+    fn zsh_names(&mut self, rows: &[CommandRow]) {
+        for CommandRow(name, about, ..) in rows {
+            self.put("        '");
+            self.put(name);
+            self.put(":");
+            self.put_quoted(about);
+            self.put("'\n");
+        }
+    }
 
-/// Writes commands and their help.
-fn write_zsh_names<W: Write>(rows: &[CommandRow], out: &mut W) -> io::Result<()> {
-    for row in rows {
-        write_zsh_name(row, out)?;
+    /// Writes the arguments of commands.
+    fn zsh_commands(&mut self, rows: &[CommandRow]) {
+        for CommandRow(name, _, arguments, _) in rows {
+            self.put("        ");
+            self.put(name);
+            self.put(") _arguments");
+            self.zsh_arguments(arguments);
+            self.put(" '--help[Print help]' ;;\n");
+        }
     }
-    Ok(())
-}
 
-/// Writes the arguments of a command.
-fn write_zsh_command<W: Write>(row: &CommandRow, out: &mut W) -> io::Result<()> {
-    let CommandRow(name, _, arguments, _) = row;
-    write!(out, "        {name}) _arguments")?;
-    for argument in *arguments {
-        write_zsh_argument(argument, out)?;
+    /// Writes arguments: whether each may be repeated, its option and help, and the name and the words of its value.
+    fn zsh_arguments(&mut self, arguments: &[Argument]) {
+        for Argument(name, kind, help) in arguments {
+            self.put(" \\\n            '");
+            self.put(if kind.is_repeated() { "*" } else { "" });
+            if kind.is_option() {
+                self.zsh_option(name, help);
+                self.zsh_values(kind.value(), kind.words());
+            } else {
+                self.zsh_values(Some(*name), kind.words());
+            }
+            self.put("'");
+        }
     }
-    out.write_all(b" '--help[Print help]' ;;\n")
-}
 
-/// Writes the arguments of commands.
-fn write_zsh_commands<W: Write>(rows: &[CommandRow], out: &mut W) -> io::Result<()> {
-    for row in rows {
-        write_zsh_command(row, out)?;
+    /// Writes an option and its help.
+    fn zsh_option(&mut self, name: &str, help: &str) {
+        self.put("--");
+        self.put(name);
+        self.put("[");
+        self.put_quoted(help);
+        self.put("]");
     }
-    Ok(())
-}
 
-/// Writes an argument: whether it may be repeated, its option and help, and the name and the words of its value.
-fn write_zsh_argument<W: Write>(argument: &Argument, out: &mut W) -> io::Result<()> {
-    let Argument(name, kind, help) = argument;
-    out.write_all(b" \\\n            '")?;
-    if kind.is_repeated() {
-        out.write_all(b"*")?;
+    /// Writes the name of a value, if there is one, and what it may be: one of these words, or a file where there are none.
+    fn zsh_values(&mut self, value: Option<&str>, words: &[&str]) {
+        let Some(value) = value else {
+            return;
+        };
+        self.put(":");
+        self.put(value);
+        if words.is_empty() {
+            self.put(":_files");
+            return;
+        }
+        self.put(":(");
+        self.put_words(words);
+        self.put(")");
     }
-    if kind.is_option() {
-        write_zsh_option(name, help, out)?;
-        write_zsh_values(kind.value(), kind.words(), out)?;
-    } else {
-        write_zsh_values(Some(*name), kind.words(), out)?;
-    }
-    out.write_all(b"'")
-}
 
-/// Writes an option and its help.
-fn write_zsh_option<W: Write>(name: &str, help: &str, out: &mut W) -> io::Result<()> {
-    write!(out, "--{name}[")?;
-    write_quoted(help, out)?;
-    out.write_all(b"]")
-}
+    /// Writes commands for fish.
+    fn fish(&mut self) {
+        self.put(FISH_HEAD);
+        for rows in commands() {
+            self.fish_commands(rows);
+        }
+    }
 
-/// Writes the name of a value, if there is one, and what it may be: one of these words, or a file where there are none.
-fn write_zsh_values<W: Write>(value: Option<&str>, words: &[&str], out: &mut W) -> io::Result<()> {
-    let Some(value) = value else {
-        return Ok(());
-    };
-    write!(out, ":{value}:")?;
-    if words.is_empty() {
-        return out.write_all(b"_files");
+    /// Writes commands and their help, and their arguments.
+    fn fish_commands(&mut self, rows: &[CommandRow]) {
+        for CommandRow(name, about, arguments, _) in rows {
+            self.put("complete -c mrep -n __fish_use_subcommand -f -a ");
+            self.put(name);
+            self.fish_help(about);
+            self.fish_arguments(name, arguments);
+        }
     }
-    out.write_all(b"(")?;
-    write_words(words, out)?;
-    out.write_all(b")")
-}
 
-/// Writes commands for fish.
-fn write_fish<W: Write>(out: &mut W) -> io::Result<()> {
-    out.write_all(FISH_HEAD.as_bytes())?;
-    for rows in commands() {
-        write_fish_commands(rows, out)?;
+    /// Writes help, at the end of a line.
+    fn fish_help(&mut self, help: &str) {
+        self.put(" -d '");
+        self.put_quoted(help);
+        self.put("'\n");
     }
-    Ok(())
-}
 
-/// Writes a command and its help, and its arguments.
-fn write_fish_command<W: Write>(row: &CommandRow, out: &mut W) -> io::Result<()> {
-    let CommandRow(name, about, arguments, _) = row;
-    write!(
-        out,
-        "complete -c mrep -n __fish_use_subcommand -f -a {name}"
-    )?;
-    write_fish_help(about, out)?;
-    for argument in *arguments {
-        write_fish_argument(name, argument, out)?;
+    /// Writes the arguments of a command for which there is something to complete: options, and those that are one of some words.
+    fn fish_arguments(&mut self, command: &str, arguments: &[Argument]) {
+        for Argument(name, kind, help) in arguments {
+            if kind.is_option() || !kind.words().is_empty() {
+                self.put("complete -c mrep -n '__fish_seen_subcommand_from ");
+                self.put(command);
+                self.put("'");
+                if kind.is_option() {
+                    self.put(" -l ");
+                    self.put(name);
+                }
+                if kind.value().is_some() {
+                    self.put(" -r");
+                }
+                self.fish_words(kind.words());
+                self.fish_help(help);
+            }
+        }
     }
-    Ok(())
-}
 
-/// Writes commands and their help, and their arguments.
-fn write_fish_commands<W: Write>(rows: &[CommandRow], out: &mut W) -> io::Result<()> {
-    for row in rows {
-        write_fish_command(row, out)?;
+    /// Writes the words of which a value is one.
+    fn fish_words(&mut self, words: &[&str]) {
+        if !words.is_empty() {
+            self.put(" -f -a '");
+            self.put_words(words);
+            self.put("'");
+        }
     }
-    Ok(())
-}
-
-/// Writes help, at the end of a line.
-fn write_fish_help<W: Write>(help: &str, out: &mut W) -> io::Result<()> {
-    out.write_all(b" -d '")?;
-    write_quoted(help, out)?;
-    out.write_all(b"'\n")
-}
-
-/// Writes an argument of a command, if there is something to complete: an option, or one of some words.
-fn write_fish_argument<W: Write>(
-    command: &str,
-    argument: &Argument,
-    out: &mut W,
-) -> io::Result<()> {
-    let Argument(name, kind, help) = argument;
-    if !kind.is_option() && kind.words().is_empty() {
-        return Ok(());
-    }
-    write!(
-        out,
-        "complete -c mrep -n '__fish_seen_subcommand_from {command}'"
-    )?;
-    if kind.is_option() {
-        write!(out, " -l {name}")?;
-    }
-    write_fish_values(kind.value().is_some(), kind.words(), out)?;
-    write_fish_help(help, out)
-}
-
-/// Writes whether a value has to come, and the words of which it is one.
-fn write_fish_values<W: Write>(has_value: bool, words: &[&str], out: &mut W) -> io::Result<()> {
-    if has_value {
-        out.write_all(b" -r")?;
-    }
-    if words.is_empty() {
-        return Ok(());
-    }
-    out.write_all(b" -f -a '")?;
-    write_words(words, out)?;
-    out.write_all(b"'")
 }

@@ -1,6 +1,6 @@
 //! Mistakes in the arguments.
 
-use crate::table::{Argument, CommandRow, commands, grammar};
+use crate::table::{Argument, arguments_of, grammar};
 use clap::Command;
 use clap::error::ErrorKind;
 use formats::Shown;
@@ -101,10 +101,10 @@ pub fn tip<S: AsStr>(words: &[S]) -> Option<&'static str> {
     if let Some(typed) = called_elsewhere(name) {
         return Some(typed);
     }
-    if name == "follow" && rest.iter().any(|word| is_password(word.as_str())) {
+    if name == "follow" && has_password(rest) {
         return Some(PASSWORD);
     }
-    if takes_database(name) && !rest.iter().any(|word| word.as_str().starts_with("--db")) {
+    if takes_database(name) && !has_database(rest) {
         return Some(DATABASE);
     }
     None
@@ -131,18 +131,31 @@ fn is_password(word: &str) -> bool {
         || (word.starts_with("-p") && !word.starts_with("--"))
 }
 
-/// Whether a command of this name takes a database.
-fn takes_database(name: &str) -> bool {
-    commands().iter().any(|rows| has_database(rows, name))
+/// Whether one of these words is such an option.
+fn has_password<S: AsStr>(words: &[S]) -> bool {
+    for word in words {
+        if is_password(word.as_str()) {
+            return true;
+        }
+    }
+    false
 }
 
-/// Whether one of these commands has this name, and takes a database.
-fn has_database(rows: &[CommandRow], name: &str) -> bool {
-    for CommandRow(command, _, arguments, _) in rows {
-        if *command == name {
-            return arguments
-                .iter()
-                .any(|Argument(argument, ..)| *argument == "db");
+/// Whether one of these words is the option of a database.
+fn has_database<S: AsStr>(words: &[S]) -> bool {
+    for word in words {
+        if word.as_str().starts_with("--db") {
+            return true;
+        }
+    }
+    false
+}
+
+/// Whether a command of this name takes a database.
+fn takes_database(name: &str) -> bool {
+    for Argument(argument, ..) in arguments_of(name) {
+        if *argument == "db" {
+            return true;
         }
     }
     false

@@ -1,6 +1,6 @@
 //! Options as the clients of MySQL have them: `-h HOST`, `-u USER` and `-P PORT`, with a blank or without.
 
-use crate::table::{Argument, CommandRow, commands};
+use crate::table::{Argument, arguments_of};
 use std::alloc::{AllocError, Global};
 use std::convert::AsStr;
 
@@ -49,20 +49,14 @@ fn push_option<'a>(
     Ok(value.is_empty())
 }
 
-/// Whether a word is an option whose value is the next word.
+/// Whether a word is an option of the command whose value is the next word.
 fn has_value(word: &str) -> bool {
-    match word.strip_prefix("--") {
-        Some(name) => commands().iter().any(|rows| has_option(rows, name)),
-        None => false,
-    }
-}
-
-/// Whether the command has an option of this name with a value.
-fn has_option(rows: &[CommandRow], name: &str) -> bool {
-    for CommandRow(command, _, arguments, _) in rows {
-        if *command == FOLLOW {
-            return arguments.iter().any(|Argument(option, kind, _)| *option == name
-                && kind.value().is_some());
+    let Some(name) = word.strip_prefix("--") else {
+        return false;
+    };
+    for Argument(option, kind, _) in arguments_of(FOLLOW) {
+        if *option == name && kind.value().is_some() {
+            return true;
         }
     }
     false

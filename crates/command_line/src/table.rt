@@ -213,8 +213,8 @@ const UNTIL: Argument = Argument(
     "End with status 0 as soon as all of this GTID set is executed, and apply nothing after that",
 );
 
-/// The commands that read streams or a source.
-static READING: [CommandRow; 5] = [
+/// The commands over streams and sets, without a database.
+static LISTING: [CommandRow; 3] = [
     CommandRow(
         "packets",
         "List the payloads of a stream of packets: offset, sequence id, length",
@@ -236,86 +236,90 @@ static READING: [CommandRow; 5] = [
         ],
         "Example:\n  mrep minus 3e11fa47-71ca-11e1-9e33-c80aa9429562:1-5 3e11fa47-71ca-11e1-9e33-c80aa9429562:2:4",
     ),
-    CommandRow(
-        "replay",
-        "Read streams, each as one connection, apply their transactions to a database, and print how each ended",
-        &[
-            DB,
-            PROGRESS,
-            CHANGES,
-            CHANGE_COLUMNS,
-            BYTES,
-            CHAIN,
-            ONLY,
-            FEED_ONLY,
-            NEW_FEED,
-            STATUS,
-            UNTIL,
-            Argument(
-                "STREAM",
-                Kind::Words,
-                "A file with the bytes that a source sent on one connection, or `-` for standard input",
-            ),
-        ],
-        "Examples:\n  mrep replay --db F.db --only shop.items capture.bin\n  zcat capture.bin.gz | mrep replay --db F.db --changes feed.json --bytes utf8 -",
-    ),
-    CommandRow(
-        "follow",
-        "Follow a source over a socket, apply its transactions to a database, and print how the connection ended",
-        &[
-            DB,
-            Argument(
-                "host",
-                Kind::Text("H"),
-                "The source's host name or address; an IPv6 address may stand in brackets. Also -h H. Without it: host of the option file, or MYSQL_HOST",
-            ),
-            Argument(
-                "port",
-                Kind::Text("P"),
-                "The source's port, from 1 to 65535. Also -P P. Without it: port of the option file, MYSQL_TCP_PORT, or 3306",
-            ),
-            Argument(
-                "user",
-                Kind::Text("U"),
-                "The name of the replication account. Also -u U. Without it: user of the option file",
-            ),
-            Argument(
-                "password-file",
-                Kind::Text("W"),
-                "The file with the password, or `-` for standard input; one line feed at its end is ignored. Without it: password of the option file, or MYSQL_PWD",
-            ),
-            Argument(
-                "defaults-file",
-                Kind::Text("FILE"),
-                "The option file, of which the sections [client] and [mrep] are read. Without it: ~/.my.cnf, if it is there",
-            ),
-            Argument(
-                "server-id",
-                Kind::Needed("I"),
-                "The server id of the replica, from 1 to 4294967295",
-            ),
-            Argument(
-                "once",
-                Kind::Flag,
-                "End at the end of the source's log instead of waiting for more events",
-            ),
-            PROGRESS,
-            CHANGES,
-            CHANGE_COLUMNS,
-            BYTES,
-            CHAIN,
-            ONLY,
-            FEED_ONLY,
-            NEW_FEED,
-            STATUS,
-            UNTIL,
-        ],
-        "Example:\n  mrep follow --db F.db --host db1 --user repl --password-file W --server-id 7 --only shop.items",
-    ),
 ];
 
-/// The commands over a database, and what helps with the command line.
-static OTHERS: [CommandRow; 13] = [
+/// The command that reads streams.
+static REPLAYING: [CommandRow; 1] = [CommandRow(
+    "replay",
+    "Read streams, each as one connection, apply their transactions to a database, and print how each ended",
+    &[
+        DB,
+        PROGRESS,
+        CHANGES,
+        CHANGE_COLUMNS,
+        BYTES,
+        CHAIN,
+        ONLY,
+        FEED_ONLY,
+        NEW_FEED,
+        STATUS,
+        UNTIL,
+        Argument(
+            "STREAM",
+            Kind::Words,
+            "A file with the bytes that a source sent on one connection, or `-` for standard input",
+        ),
+    ],
+    "Examples:\n  mrep replay --db F.db --only shop.items capture.bin\n  zcat capture.bin.gz | mrep replay --db F.db --changes feed.json --bytes utf8 -",
+)];
+
+/// The command that reads a source.
+static FOLLOWING: [CommandRow; 1] = [CommandRow(
+    "follow",
+    "Follow a source over a socket, apply its transactions to a database, and print how the connection ended",
+    &[
+        DB,
+        Argument(
+            "host",
+            Kind::Text("H"),
+            "The source's host name or address; an IPv6 address may stand in brackets. Also -h H. Without it: host of the option file, or MYSQL_HOST",
+        ),
+        Argument(
+            "port",
+            Kind::Text("P"),
+            "The source's port, from 1 to 65535. Also -P P. Without it: port of the option file, MYSQL_TCP_PORT, or 3306",
+        ),
+        Argument(
+            "user",
+            Kind::Text("U"),
+            "The name of the replication account. Also -u U. Without it: user of the option file",
+        ),
+        Argument(
+            "password-file",
+            Kind::Text("W"),
+            "The file with the password, or `-` for standard input; one line feed at its end is ignored. Without it: password of the option file, or MYSQL_PWD",
+        ),
+        Argument(
+            "defaults-file",
+            Kind::Text("FILE"),
+            "The option file, of which the sections [client] and [mrep] are read. Without it: ~/.my.cnf, if it is there",
+        ),
+        Argument(
+            "server-id",
+            Kind::Needed("I"),
+            "The server id of the replica, from 1 to 4294967295",
+        ),
+        Argument(
+            "once",
+            Kind::Flag,
+            "End at the end of the source's log instead of waiting for more events",
+        ),
+        PROGRESS,
+        CHANGES,
+        CHANGE_COLUMNS,
+        BYTES,
+        CHAIN,
+        ONLY,
+        FEED_ONLY,
+        NEW_FEED,
+        STATUS,
+        UNTIL,
+    ],
+    "Example:\n  mrep follow --db F.db --host db1 --user repl --password-file W --server-id 7 --only shop.items",
+)];
+
+/// The commands about rows.
+static SHOWING: [CommandRow; 3] = [
     CommandRow(
         "show",
         "Print the rows of a database: table, count, cells",
@@ -369,6 +373,10 @@ static OTHERS: [CommandRow; 13] = [
         ],
         "Example:\n  mysql -h db1 -u me -p -BN --binary-as-hex --default-character-set=utf8mb4 --init-command=\"SET sql_mode='', time_zone='+00:00'\" -e 'SELECT * FROM shop.items' | mrep verify --db F.db --columns shop.columns shop.items -",
     ),
+];
+
+/// The commands that print what is known of a database.
+static KNOWN: [CommandRow; 4] = [
     CommandRow(
         "tables",
         "Print the tables that a database was made for, and how many rows of each it has",
@@ -400,6 +408,10 @@ static OTHERS: [CommandRow; 13] = [
         &[DB, SET],
         "Example:\n  mrep missing --db F.db 3e11fa47-71ca-11e1-9e33-c80aa9429562:1-1000",
     ),
+];
+
+/// The commands that make a file.
+static MAKING: [CommandRow; 2] = [
     CommandRow(
         "copy",
         "Copy a database as it is after some transaction, also while another process writes it",
@@ -440,6 +452,10 @@ static OTHERS: [CommandRow; 13] = [
         ],
         "Example:\n  mrep export --db F.db --columns shop.columns --schema shop shop.db && sqlite3 shop.db 'SELECT name FROM items WHERE id = 7'",
     ),
+];
+
+/// The commands that record something, and what helps with the command line.
+static RECORDING: [CommandRow; 4] = [
     CommandRow(
         "adopt",
         "Record a GTID set as executed without changes, and print what was new of it",
@@ -502,7 +518,7 @@ static OTHERS: [CommandRow; 13] = [
 ];
 
 /// The commands of a first copy.
-static COPYING: [CommandRow; 4] = [
+static COPYING: [CommandRow; 2] = [
     CommandRow(
         "select",
         "Print the statements with which the `mysql` client prints the rows of tables at one moment, for `mrep load`",
@@ -550,6 +566,10 @@ static COPYING: [CommandRow; 4] = [
         ],
         "Example:\n  mrep load --db F.db --columns shop.columns items.copy && mrep follow --db F.db ..",
     ),
+];
+
+/// The commands that take rows out.
+static CLEARING: [CommandRow; 2] = [
     CommandRow(
         "clear",
         "Take all rows of a table out of a database and record a GTID as executed, and print how many rows went",
@@ -592,22 +612,76 @@ static COPYING: [CommandRow; 4] = [
     ),
 ];
 
-fn reading() -> &'static [CommandRow] {
-    &READING
+fn listing() -> &'static [CommandRow] {
+    &LISTING
+}
+
+fn replaying() -> &'static [CommandRow] {
+    &REPLAYING
+}
+
+fn following() -> &'static [CommandRow] {
+    &FOLLOWING
 }
 
 fn copying() -> &'static [CommandRow] {
     &COPYING
 }
 
-fn others() -> &'static [CommandRow] {
-    &OTHERS
+fn clearing() -> &'static [CommandRow] {
+    &CLEARING
 }
 
-/// All commands, in the order of the help. A table stands in the proof of each function that names it, and so one alone does; in
-/// one table they are more than the prover takes.
-pub fn commands() -> [&'static [CommandRow]; 3] {
-    [reading(), copying(), others()]
+fn showing() -> &'static [CommandRow] {
+    &SHOWING
+}
+
+fn known() -> &'static [CommandRow] {
+    &KNOWN
+}
+
+fn making() -> &'static [CommandRow] {
+    &MAKING
+}
+
+fn recording() -> &'static [CommandRow] {
+    &RECORDING
+}
+
+/// All commands, in the order of the help. A table stands in the proof of each function that names it, and so one alone does; of
+/// two short tables the proof costs less than of a long one.
+pub fn commands() -> [&'static [CommandRow]; 9] {
+    [
+        listing(),
+        replaying(),
+        following(),
+        copying(),
+        clearing(),
+        showing(),
+        known(),
+        making(),
+        recording(),
+    ]
+}
+
+/// The arguments of a command; none where no command has this name.
+pub fn arguments_of(command: &str) -> &'static [Argument] {
+    for rows in commands() {
+        if let Some(arguments) = arguments_in(rows, command) {
+            return arguments;
+        }
+    }
+    &[]
+}
+
+/// The arguments of a command, if it is one of these.
+fn arguments_in(rows: &[CommandRow], command: &str) -> Option<&'static [Argument]> {
+    for CommandRow(name, _, arguments, _) in rows {
+        if *name == command {
+            return Some(*arguments);
+        }
+    }
+    None
 }
 
 /// The argument of a row.
@@ -634,53 +708,51 @@ fn arg_of<'a>(alloc: Global, row: &Argument) -> Result<Arg<'a>, AllocError> {
     }
 }
 
-/// A command with these arguments.
-fn with_arguments<'a>(
+/// Adds the arguments of rows.
+fn push_arguments<'a>(
     alloc: Global,
-    command: Command<'a>,
     rows: &[Argument],
-) -> Result<Command<'a>, AllocError> {
-    let mut command = command;
+    arguments: &mut Vec<Arg<'a>>,
+) -> Result<(), AllocError> {
     for row in rows {
-        command = command.arg(arg_of(alloc, row)?)?;
+        arguments.push(arg_of(alloc, row)?)?;
     }
-    Ok(command)
+    Ok(())
 }
 
 /// The command of a row.
 fn command_of<'a>(alloc: Global, row: &CommandRow) -> Result<Command<'a>, AllocError> {
     let CommandRow(name, about, rows, examples) = *row;
-    let command = Command::new(alloc, name).about(about).after_help(examples);
-    with_arguments(alloc, command, rows)
+    let mut arguments = Vec::with_capacity(alloc, rows.len())?;
+    push_arguments(alloc, rows, &mut arguments)?;
+    Command::new(alloc, name)
+        .about(about)
+        .after_help(examples)
+        .args(arguments)
 }
 
-/// The command without those below it.
-fn program<'a>(alloc: Global) -> Command<'a> {
+/// Adds the commands of rows.
+fn push_commands<'a>(
+    alloc: Global,
+    rows: &[CommandRow],
+    commands: &mut Vec<Command<'a>>,
+) -> Result<(), AllocError> {
+    for row in rows {
+        commands.push(command_of(alloc, row)?)?;
+    }
+    Ok(())
+}
+
+/// All commands and their arguments.
+pub fn grammar<'a>(alloc: Global) -> Result<Command<'a>, AllocError> {
+    let mut below = Vec::new(alloc);
+    for rows in commands() {
+        push_commands(alloc, rows, &mut below)?;
+    }
     Command::new(alloc, "mrep")
         .version(VERSION)
         .long_version(LONG_VERSION)
         .about("A MySQL replication follower")
         .subcommand_required(true)
-}
-
-/// A command with those of the rows below it.
-fn with_commands<'a>(
-    alloc: Global,
-    command: Command<'a>,
-    rows: &[CommandRow],
-) -> Result<Command<'a>, AllocError> {
-    let mut command = command;
-    for row in rows {
-        command = command.subcommand(command_of(alloc, row)?)?;
-    }
-    Ok(command)
-}
-
-/// All commands and their arguments.
-pub fn grammar<'a>(alloc: Global) -> Result<Command<'a>, AllocError> {
-    let mut command = program(alloc);
-    for rows in commands() {
-        command = with_commands(alloc, command, rows)?;
-    }
-    Ok(command)
+        .subcommands(below)
 }
