@@ -70,14 +70,19 @@ fn push_name(text: &mut String, name: &str) -> Result<(), AllocError> {
 
 /// Whether the key of a table is one column of integers, which is the rowid then.
 fn has_rowid_key(table: &DescribedTable) -> bool {
-    let keys = table
-        .columns
-        .iter()
-        .filter(|column| column.key == Key::Pri)
-        .count();
-    let is_integer = table.columns.iter().any(|column| column.key == Key::Pri
-        && type_of(column) == INTEGER);
-    keys == 1 && is_integer
+    let mut key = None;
+    for column in &table.columns {
+        if column.key == Key::Pri {
+            if key.is_some() {
+                return false;
+            }
+            key = Some(column);
+        }
+    }
+    match key {
+        Some(column) => type_of(column) == INTEGER,
+        None => false,
+    }
 }
 
 /// The statement that makes a table of this name.
@@ -133,11 +138,10 @@ fn push_key(text: &mut String, table: &DescribedTable) -> Result<(), AllocError>
 pub fn insertion(alloc: Global, table: &DescribedTable, name: &str) -> Result<String, AllocError> {
     let mut text = String::from_str(alloc, "INSERT INTO ")?;
     push_name(&mut text, name)?;
-    let mut before = " VALUES (";
+    let mut before = " VALUES (?";
     for _ in &table.columns {
         text.push_str(before)?;
-        text.push_str("?")?;
-        before = ", ";
+        before = ", ?";
     }
     text.push_str(")")?;
     Ok(text)

@@ -21,7 +21,7 @@ const PLACE: &str = "CREATE TABLE \"mrep_place\" (\"place\" TEXT, \"executed\" T
 const NO_MEMORY: Error = Error::SqliteFailure(ErrorCode::OutOfMemory);
 
 /// Why a row is not written.
-#[derive(Debug, Drop)]
+#[derive(Drop)]
 pub enum TableError {
     Misfit(Misfit),
     Database(Error),

@@ -21,14 +21,14 @@ const RESERVED: &[u8] = b"sqlite_";
 const PLACE: &[u8] = b"mrep_place";
 
 /// The name of a table.
-#[derive(Debug, Drop)]
+#[derive(Drop)]
 pub struct TableName {
     pub schema: Vec<u8>,
     pub table: Vec<u8>,
 }
 
 /// Why a described table is not made.
-#[derive(Clone, Copy, Debug, PartialEq, Eq, Error)]
+#[derive(Clone, Copy, Debug, Error)]
 pub enum TableFault {
     /// It is asked for and not described.
     #[error("the table is not described")]
@@ -57,7 +57,7 @@ pub enum TableFault {
 }
 
 /// Why no tables are made of a description.
-#[derive(Debug, Drop)]
+#[derive(Drop)]
 pub enum TablesFault {
     /// This table cannot be made.
     Table(TableName, TableFault),
@@ -206,8 +206,9 @@ fn missing(
     table: &[u8],
     schema: Option<&[u8]>,
 ) -> Option<TableFault> {
-    if schema.is_some_and(|wanted| wanted != of) {
-        return Some(TableFault::Elsewhere);
+    match schema {
+        Some(wanted) if wanted != of => return Some(TableFault::Elsewhere),
+        _ => {}
     }
     match tables.find(of, table) {
         Some(_) => None,
@@ -244,7 +245,9 @@ fn judge_all(alloc: Global, tables: &ExportTables) -> Result<(), TablesFault> {
             return Err(fault_of(alloc, schema, name, fault));
         }
         let before: Option<usize> = seen.insert(in_sqlite, place)?;
-        if let Some(other) = before.and_then(|at| tables.all().get(at)) {
+        if let Some(at) = before
+            && let Some(other) = tables.all().get(at)
+        {
             let first = named(alloc, other.schema.as_bytes(), other.name.as_bytes())?;
             return Err(TablesFault::Same(first, named(alloc, schema, name)?));
         }
