@@ -218,11 +218,10 @@ fn write_time(name: &str, micros: Option<u64>, out: &mut Vec<u8>) -> io::Result<
 
 /// Writes the reason for the last end as a label, if it is known. It has neither quotes nor backslashes.
 fn write_info(facts: &StatusValues, out: &mut Vec<u8>) -> io::Result<()> {
-    out.write_all(INFO.as_bytes())?;
-    if let Some(end) = &facts.end {
-        write!(out, "end=\"{end}\"")?;
+    match &facts.end {
+        Some(end) => writeln!(out, "{INFO}end=\"{end}\"}} 1"),
+        None => writeln!(out, "{INFO}}} 1"),
     }
-    out.write_all(b"} 1\n")
 }
 
 /// Writes as comments what is another text after each transaction, which as a label would be a series of its own: the executed

@@ -351,10 +351,17 @@ impl<'a, O: Write, E: Write> Watch<'a, O, E> {
 
     /// Gives the change feed to this file up: nothing was reported.
     pub fn discard(self, name: &str) {
-        let Watch { source, feed, .. } = self;
+        let rt = self.source.rt;
+        let (feed, _) = self.into_parts();
         if let Some(feed) = feed {
-            feed.discard(source.rt, name);
+            feed.discard(rt, name);
         }
+    }
+
+    /// The change feed, and why reading was stopped.
+    fn into_parts(self) -> (Option<Feed>, Option<WatchStop>) {
+        let Watch { feed, stop, .. } = self;
+        (feed, stop)
     }
 
     /// Reports of which tables that are asked for of a new database it has no row, since none came with what was applied.
@@ -377,12 +384,8 @@ impl<'a, O: Write, E: Write> Watch<'a, O, E> {
 
     /// Why reading was stopped, if it was. Where that was at once, the file that the change feed has made is removed.
     pub fn stop(self) -> Option<WatchStop> {
-        let Watch {
-            source,
-            feed,
-            stop,
-            ..
-        } = self;
+        let source = self.source;
+        let (feed, stop) = self.into_parts();
         if let Some(WatchStop::KeepsNone | WatchStop::KeepsRows | WatchStop::NewFeed) = stop
             && let Some(feed) = feed
         {
