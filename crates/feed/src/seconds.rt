@@ -8,7 +8,7 @@ use std::marker::Model;
 
 /// The seconds of the changes of a transaction, by their places, from 0 on. Neighbours with the same seconds take 16 bytes
 /// together. In contracts it is the list of these spans.
-#[derive(Debug, Drop)]
+#[derive(Drop)]
 pub struct Seconds {
     /// The places of their first changes, and the seconds, where these are known.
     spans: Vec<(usize, Option<u32>)>,
@@ -96,7 +96,7 @@ fn end_with(spans: &[(usize, Option<u32>)], seconds: Option<u32>) -> bool
 
 /// The seconds of the changes of a transaction, which are read from the front. In contracts it is the spans that are left,
 /// and the seconds before them.
-#[derive(Debug, Drop)]
+#[derive(Drop)]
 pub struct SecondsIter<'a> {
     left: &'a [(usize, Option<u32>)],
     known: Option<u32>,

@@ -15,7 +15,7 @@ use binlog::{Event, Origin, committed_micros};
 use std::alloc::{AllocError, Global};
 
 /// What the events of the open transaction say of it. What they do not say is not known.
-#[derive(Debug, Drop)]
+#[derive(Drop)]
 pub struct Stamps {
     /// The id of the server that committed it first.
     pub(crate) server: Option<u32>,

@@ -47,7 +47,7 @@ pub fn text_of_query(event: &[u8]) -> Option<&[u8]>
 
 /// The texts of the statements of a transaction, each at the place of the first change that came after it. In contracts it
 /// is the list of these.
-#[derive(Debug, Drop)]
+#[derive(Drop)]
 pub struct Texts {
     texts: Vec<(usize, Vec<u8>)>,
     alloc: Global,
@@ -96,7 +96,7 @@ impl Texts {
 }
 
 /// The texts of a transaction, which are read from the front.
-#[derive(Debug, Drop)]
+#[derive(Drop)]
 pub struct TextsIter<'a> {
     left: &'a [(usize, Vec<u8>)],
 }
