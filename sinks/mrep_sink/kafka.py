@@ -15,7 +15,7 @@ except ImportError as missing:
 
 from .description import Table
 from .faults import RETRY, USAGE, Fault
-from .feed import LARGE, LINE, Item, Transaction, place_text, print_set, read_set
+from .feed import LARGE, LINE, START, Item, Transaction, place_text, print_set, read_set
 from .options import Options
 from .report import Report
 from .sink import Place, SqlSink, Target
@@ -133,7 +133,7 @@ class KafkaSink(SqlSink[Topic]):
         self.others(self.options.name, False, {place: text for *names, text in found['tables']
                                                for place in [(names[0], names[1])]})
         executed: str = found['executed']
-        self.held = (found['place'] or place_text((0, 0, ''), read_set(executed), ''), executed)
+        self.held = (found['place'] or place_text(START, read_set(executed), ''), executed)
 
     def tables(self) -> List[List[str]]:
         """What is kept of the tables: that they are wanted; other columns make other messages."""

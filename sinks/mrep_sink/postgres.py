@@ -15,7 +15,7 @@ except ImportError as missing:
 
 from .description import Column, Row, Table, digest_of
 from .faults import ACT, RETRY, USAGE, Fault, shown
-from .feed import Item, Transaction, place_text, read_set
+from .feed import START, Item, Transaction, place_text, read_set
 from .options import Options
 from .report import Report
 from .sink import Entry, Place, SqlSink, Target
@@ -279,7 +279,7 @@ class PostgresSink(SqlSink[PostgresTable]):
         place, executed, self.seq = base.execute('SELECT place, executed, seq FROM mrep.place WHERE name = %s',
                                                  [name]).fetchone() or ('', '', 0)
         base.execute('COMMIT')
-        return (place or place_text((0, 0, ''), read_set(executed), ''), executed)
+        return (place or place_text(START, read_set(executed), ''), executed)
 
     def begin_again(self, executed: str, has_history: bool) -> None:
         """Goes on with a database of a sink. A table with another description is made anew while it has no rows."""

@@ -5,7 +5,7 @@ from typing import TYPE_CHECKING, Any, Callable, Dict, Generic, Iterable, Iterat
 
 from .description import Table, written
 from .faults import ACT, Fault, shown
-from .feed import IDLE, LARGE, Item, Reader, Transaction, add, digested, place_text, print_set, read_set
+from .feed import IDLE, LARGE, Item, Reader, Transaction, add, marked, place_text, print_set, read_set
 from .options import Options
 from .report import Report
 
@@ -206,7 +206,7 @@ class Committer:
             for gtids in transaction.adds:
                 add(self.used, gtids)
         last = batch[-1]
-        after = (place_text(digested(last.end), self.used, last.next_form), print_set(self.used))
+        after = (place_text(marked(last.end), self.used, last.next_form), print_set(self.used))
         self.sink.write(batch, after, is_careful)
         self.sink.held = after
         ts = next((change.get('ts') for transaction in reversed(batch) if len(transaction) for change in transaction), None)

@@ -6,7 +6,7 @@ from typing import Any, Dict, Iterable, List, Optional, Tuple
 
 from .description import CHARACTERS, INTEGERS, MEMBERS, REALS, TEXTS, Column, Row, Table, digest_of
 from .faults import RETRY, USAGE, Fault
-from .feed import Item, Transaction, place_text, read_set
+from .feed import START, Item, Transaction, place_text, read_set
 from .options import Options
 from .sink import Entry, Place, SqlSink, Target
 
@@ -181,7 +181,7 @@ class SqliteSink(SqlSink[SqliteTable]):
         self.base.execute(EXECUTED)
         place, executed = self.base.execute('SELECT place, executed FROM mrep_place').fetchone()
         self.stored: Place = (place, executed)
-        self.held = (place or place_text((0, 0, ''), read_set(executed), ''), executed)
+        self.held = (place or place_text(START, read_set(executed), ''), executed)
         self.seq: int = self.base.execute('SELECT seq FROM mrep_sink').fetchone()[0]
         self.base.execute('COMMIT')
         # Of the last commits that a power failure takes their places go too: these come again.

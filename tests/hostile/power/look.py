@@ -16,7 +16,7 @@ from record import Ended, Op, Recording, Renamed, Said, Write
 sys.path.insert(0, os.path.join(ROOT, 'samples'))
 from read_feed import Reader, has, read_set
 from mrep_sink.faults import Fault
-from mrep_sink.feed import Transaction
+from mrep_sink.feed import GtidSet, Line, Transaction
 
 # The printed set and the lines of `mrep show` of a database; and a transaction as a reader of a feed has it.
 Content = Tuple[str, str]
@@ -70,9 +70,9 @@ def read(folder: str, db: str = 'F') -> Content:
 class Adopting(Reader):
     """A reader that takes for used what an `open` has more, as a load's set, and transactions without changes."""
 
-    def opened(self, item: dict) -> Transaction:
+    def opened(self, executed: GtidSet, item: dict, last: Line) -> Iterator[Transaction]:
         self.adopt = True
-        return super().opened(item)
+        return super().opened(executed, item, last)
 
 
 class Left(NamedTuple):
