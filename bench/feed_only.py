@@ -9,7 +9,6 @@ TRANSACTIONS (20,000) are how many; above 200,000 of a database without rows alo
 """
 
 import os
-import struct
 import subprocess
 import sys
 import tempfile
@@ -17,31 +16,12 @@ import time
 
 sys.path.insert(0, os.path.join(os.path.dirname(os.path.abspath(__file__)), '..', 'tests', 'lib'))
 import scripted
-from events import BEGIN, FORMAT, event, gtid
-from mrep import OPENING
-from streams import packets
+from one_row import stream
 
 PROGRAM = os.path.abspath(sys.argv[1])
 COUNTS = [int(word) for word in sys.argv[2:]] or [20_000]
 # The most transactions of a stream, and from how many on no rows are kept.
 PIECE, LARGE, RUNS = 1_000_000, 200_000, 3
-MAP = event(19, (1).to_bytes(6, 'little') + b'\1\0\4shop\0\5items\0\2\x03\x0f\2\x14\0\2')
-
-
-def stream(name, first, last):
-    """A stream of the transactions with these numbers, each with a row of an INT and a VARCHAR."""
-    with open(name, 'wb') as file:
-        file.write(OPENING)
-        at = 1
-        for begin in range(first, last + 1, 1000):
-            payloads = [FORMAT] if begin == first else []
-            for number in range(begin, min(begin + 1000, last + 1)):
-                row = b'\0' + struct.pack('<I', number) + b'\x09some text'
-                body = (1).to_bytes(6, 'little') + b'\1\0\2\0\2\3' + row
-                payloads += [gtid(number), BEGIN, MAP, event(30, body), event(16, number.to_bytes(8, 'little'))]
-            file.write(packets(payloads, at))
-            at = (at + len(payloads)) % 256
-    return name
 
 
 def measured(*words):
