@@ -23,7 +23,7 @@ const FISH_HEAD: &str =
 
 /// Prints the completions of a shell: bash, zsh or fish.
 pub fn write_completions<W: Write>(shell: &str, out: &mut W) -> io::Result<()> {
-    let mut script = Script {
+    let mut script = CompletionScript {
         out,
         written: Ok(()),
     };
@@ -32,18 +32,18 @@ pub fn write_completions<W: Write>(shell: &str, out: &mut W) -> io::Result<()> {
         "fish" => script.fish(),
         _ => script.bash(),
     }
-    let Script { written, .. } = script;
+    let CompletionScript { written, .. } = script;
     written
 }
 
 /// A script for a shell, and whether all of it could be written so far: after a failure no more is.
 #[derive(Drop)]
-struct Script<'o, W> {
+struct CompletionScript<'o, W> {
     out: &'o mut W,
     written: io::Result<()>,
 }
 
-impl<W: Write> Script<'_, W> {
+impl<W: Write> CompletionScript<'_, W> {
     /// Writes a text.
     fn put(&mut self, text: &str) {
         if self.written.is_ok() {
