@@ -38,11 +38,11 @@ all_taken given rows new_given new_rows (Some xs) (Some ys) hasher mid_hasher ne
     (subst (λ (x : List ℕ). Holds new_hasher x) (append_assoc m so_far.lines ys) (it.hashed (m ++ so_far.lines) (so_far.hashed m holds)))
 
 -- the source is made of the digest of all that was left
-pub made_of : (ids : Ids) (source digest : List ℕ) (left text : Option (List ℕ)) (hasher : Sha1) → text ≡ prepend_known [] left → IsMadeOf ids source digest → IfSome text (λ rest. Holds hasher rest) → ((m : List ℕ) → Holds hasher m → digest ≡ sha1 m)
-    → IfSome left (λ lines. IsMadeOf ids source (sha1 lines))
-made_of ids source digest None text hasher is made holds hashes = tt
-made_of ids source digest (Some lines) text hasher is made holds hashes =
-    subst (λ (x : List ℕ). IsMadeOf ids source x) (hashes lines (subst (λ (t : Option (List ℕ)). IfSome t (λ rest. Holds hasher rest)) is holds)) made
+pub made_of : (ids : Ids) (source digest described : List ℕ) (left text : Option (List ℕ)) (hasher : Sha1) → text ≡ prepend_known [] left → IsMadeOf ids source digest described → IfSome text (λ rest. Holds hasher rest) → ((m : List ℕ) → Holds hasher m → digest ≡ sha1 m)
+    → IfSome left (λ lines. IsMadeOf ids source (sha1 lines) described)
+made_of ids source digest described None text hasher is made holds hashes = tt
+made_of ids source digest described (Some lines) text hasher is made holds hashes =
+    subst (λ (x : List ℕ). IsMadeOf ids source x described) (hashes lines (subst (λ (t : Option (List ℕ)). IfSome t (λ rest. Holds hasher rest)) is holds)) made
 
 -- what `is_none` says of an option
 pub of_none : {D : Type 0} (next : Option D) (none : Bool) (X : Type 0) → is_some next ≡ not none → none ≡ true → IfNone next X → X

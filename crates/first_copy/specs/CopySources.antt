@@ -9,12 +9,12 @@ use Rattle.gtid.specs.Text.{IsSetText}
 use Rattle.gtid.specs.Identifier.{Ids}
 
 -- The UUID of version 5 in the namespace of object identifiers, RFC 9562, 5.5, of the first line of a copy, its set as it is
--- printed, and the digest of the lines after its first two.
-abbrev pub source_of : List ℕ → List ℕ → List ℕ
-source_of set digest = with_version (with_variant (take 16 (sha1 (namespace_oid ++ codes "mrep copy 1" ++ 10 ∷ (set ++ digest)))) RFC4122) Sha1
+-- printed, the digest of the lines after its first two, and that of the description of its tables.
+abbrev pub source_of : List ℕ → List ℕ → List ℕ → List ℕ
+source_of set digest described = with_version (with_variant (take 16 (sha1 (namespace_oid ++ codes "mrep copy 1" ++ 10 ∷ (set ++ (digest ++ described))))) RFC4122) Sha1
 
--- The source is that of a copy with this set and this digest of the lines after its first two.
-pub record IsMadeOf (ids : Ids) (source digest : List ℕ) : Type 0 where
+-- The source is that of a copy with this set, this digest of the lines after its first two, and this one of its description.
+pub record IsMadeOf (ids : Ids) (source digest described : List ℕ) : Type 0 where
   pub set : List ℕ
   pub printed : IsSetText ids set
-  pub source_is : source ≡ source_of set digest
+  pub source_is : source ≡ source_of set digest described

@@ -11,10 +11,11 @@ pub record HasHead (ids : Ids) (text : Option (List ℕ)) : Type 0 where
   pub left : Option (List ℕ)
   pub took : TakesHead ids text left
 
--- The text begins with a head of this set, and the source is that of the set and of the lines after it, where they are known.
-pub record HasCopySource (ids : Ids) (source : List ℕ) (text : Option (List ℕ)) : Type 0 where
+-- The text begins with a head of this set, and the source is that of the set, of the lines after it, where they are known, and of a
+-- description with this digest.
+pub record HasCopySource (ids : Ids) (source described : List ℕ) (text : Option (List ℕ)) : Type 0 where
   pub head : HasHead ids text
-  pub source_is : IfSome head.left (λ lines. IsMadeOf ids source (sha1 lines))
+  pub source_is : IfSome head.left (λ lines. IsMadeOf ids source (sha1 lines) described)
 
 -- This is left of the text once its head is read, where it is known.
 pub record FollowsHead (text left : Option (List ℕ)) : Type 0 where

@@ -27,3 +27,14 @@ pub fn text_digest<R: Read>(reader: &mut R, piece: &mut [u8]) -> io::Result<[u8;
     }
     Err(io::Error::from(io::ErrorKind::FileTooLarge))
 }
+
+/// The SHA-1 of bytes.
+///
+/// Clauses: the above.
+pub fn bytes_digest(bytes: &[u8]) -> [u8; 20]
+    ensures { result ≡ sha1 bytes.now }
+{
+    let mut hasher = Sha1::new();
+    hasher.update(bytes);
+    hasher.finalize()
+}

@@ -23,7 +23,7 @@ mod table_front;
 
 pub use copied_rows::{CopiedRows, RowsFault};
 pub use copy_fault::CopyFault;
-pub use digest::text_digest;
+pub use digest::{bytes_digest, text_digest};
 pub use fault::RowFault;
 pub use head::read_head;
 pub use loader::{CHUNK, Loader};

@@ -132,15 +132,22 @@ fn same(description: &Rc<Description>) -> Result<Rc<Description>, CopyFault>
     }
 }
 
-/// The first GTID of the source of a copy with this executed set and this digest of the lines after its head.
-fn first_gtid(alloc: Global, executed: &GtidSet, digest: &[u8; 20]) -> Result<Gtid, CopyFault>
+/// The first GTID of the source of a copy with this executed set, this digest of the lines after its head, and this one of its
+/// description.
+fn first_gtid(
+    alloc: Global,
+    executed: &GtidSet,
+    digest: &[u8; 20],
+    described: &[u8; 20],
+) -> Result<Gtid, CopyFault>
     ensures first { IfOk result (λ gtid. gtid.number ≡ 1) }
-    ensures source { IfOk result (λ gtid. IsMadeOf executed.now gtid.source digest.now) }
+    ensures source { IfOk result (λ gtid. IsMadeOf executed.now gtid.source digest.now
+        described.now) }
 {
     let Ok(text) = text_of(alloc, executed) else {
         return Err(CopyFault::Memory);
     };
-    let Ok(source) = copy_source(alloc, text.as_str(), digest) else {
+    let Ok(source) = copy_source(alloc, text.as_str(), digest, described) else {
         return Err(CopyFault::Memory);
     };
     match Gtid::new(source, 1) {
@@ -164,19 +171,20 @@ pub struct Summary {
 }
 
 impl Summary {
-    /// Reads a copy of described tables to its end.
+    /// Reads a copy of described tables to its end. `described` is the SHA-1 of the text of their description.
     ///
     /// Clauses:
-    /// - `source`, `first`: the source of the transactions is the UUID of version 5 of the set and of the lines' SHA-1
-    ///   (`copy_source`); its first number is 1
+    /// - `source`, `first`: the source of the transactions is the UUID of version 5 of the set, of the lines' SHA-1 and of
+    ///   `described` (`copy_source`); its first number is 1
     /// - `described`: it keeps the description
     pub fn of<R: BufRead + Drop>(
         alloc: Global,
         description: Rc<Description>,
+        described: &[u8; 20],
         mut reader: R,
     ) -> Result<Summary, CopyFault>
         ensures source { IfOk result (λ made. HasCopySource made.executed made.first.source
-            (R.Read.remaining reader)) }
+            described.now (R.Read.remaining reader)) }
         ensures first { IfOk result (λ made. made.first.number ≡ 1) }
         ensures described { IfOk result (λ made. made.description ≡ description) }
     {
@@ -189,7 +197,7 @@ impl Summary {
             digests: Vec::new(alloc),
         };
         tallied.take(&mut loader)?;
-        let first = first_gtid(alloc, &executed, &loader.digest())?;
+        let first = first_gtid(alloc, &executed, &loader.digest(), described)?;
         let names = tallied.names()?;
         let Tallied {
             tables,

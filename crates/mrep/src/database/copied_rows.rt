@@ -1,6 +1,6 @@
 //! The file of a first copy.
 
-use crate::database::description::read_description;
+use crate::database::description::read_with_digest;
 use crate::report::failure::{Failure, of_copy, of_system, over_argument, over_file, unusable};
 use clap::ArgMatches;
 use command_line::{parse_digest, word};
@@ -79,8 +79,9 @@ impl<'a> CopyFile<'a> {
         let (input, size) = self.open(rt)?;
         let alloc = rt.alloc();
         let reader = self.used(alloc, BufReader::new(alloc, input))?;
-        let description = Rc::new(alloc, read_description(rt, self.columns)?)?;
-        let summary = self.read(alloc, Summary::of(alloc, description, reader))?;
+        let (description, digest) = read_with_digest(rt, self.columns)?;
+        let description = Rc::new(alloc, description)?;
+        let summary = self.read(alloc, Summary::of(alloc, description, &digest, reader))?;
         Ok((summary, size))
     }
 

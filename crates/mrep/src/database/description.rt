@@ -2,7 +2,9 @@
 
 use crate::report::failure::{Failure, of_description, of_system, unusable};
 use columns::Description;
+use first_copy::bytes_digest;
 use rows::DescribedTables;
+use std::alloc::Global;
 use std::io::Read;
 use std::{fs, io};
 
@@ -20,16 +22,31 @@ pub fn read_tables(rt: &HostRuntime, name: &str) -> Result<DescribedTables, Fail
 
 /// The description that a file has.
 pub fn read_description(rt: &HostRuntime, name: &str) -> Result<Description, Failure> {
-    let text = match read_text(rt, name) {
-        Ok(text) => text,
-        Err(cause) => return Err(of_system(rt.alloc(), name, cause)),
-    };
-    if text.len() as u64 > LONGEST {
-        return Err(unusable(rt.alloc(), name, TOO_LONG));
-    }
-    match Description::read(rt.alloc(), &text) {
+    let text = text_in(rt, name)?;
+    description_of(rt.alloc(), name, &text)
+}
+
+/// The description that a file has, and the SHA-1 of its text.
+pub fn read_with_digest(rt: &HostRuntime, name: &str) -> Result<(Description, [u8; 20]), Failure> {
+    let text = text_in(rt, name)?;
+    let description = description_of(rt.alloc(), name, &text)?;
+    Ok((description, bytes_digest(&text)))
+}
+
+/// The description that the text of a file of this name is.
+fn description_of(alloc: Global, name: &str, text: &[u8]) -> Result<Description, Failure> {
+    match Description::read(alloc, text) {
         Ok(description) => Ok(description),
-        Err(fault) => Err(of_description(rt.alloc(), name, &text, fault)),
+        Err(fault) => Err(of_description(alloc, name, text, fault)),
+    }
+}
+
+/// The text of a file, which is no longer than a description may be.
+fn text_in(rt: &HostRuntime, name: &str) -> Result<Vec<u8>, Failure> {
+    match read_text(rt, name) {
+        Ok(text) if text.len() as u64 > LONGEST => Err(unusable(rt.alloc(), name, TOO_LONG)),
+        Ok(text) => Ok(text),
+        Err(cause) => Err(of_system(rt.alloc(), name, cause)),
     }
 }
 
