@@ -42,10 +42,10 @@ def text(gtids, rows):
     return b''.join([b'mrep copy 1\n', gtids.encode(), b'\n', *(row + b'\n' for row in rows), b'end\t%d\n' % len(rows)])
 
 
-def loaded_set(gtids, copy, transactions=1, ended=True):
-    """The executed set after so many transactions of a copy at this set: the first GTID of its source and the one that says that it
+def loaded_set(gtids, copy, columns, transactions=1, ended=True):
+    """The executed set after so many transactions of a copy at this set, with this description: the first GTID of its source and the one that says that it
     has begun are executed with the set, and the one that says that it has ended after its last row."""
-    return with_copy(gtids, source(gtids, copy), 1 + transactions, ended)
+    return with_copy(gtids, source(gtids, copy, columns), 1 + transactions, ended)
 
 
 def with_copy(gtids, added, last, ended=True):
@@ -56,11 +56,11 @@ def with_copy(gtids, added, last, ended=True):
     return with_source(gtids, added, last, marks)
 
 
-def source(gtids, copy, first=b'mrep copy 1\n'):
-    """The source of the transactions of a copy, by RFC 9562, 5.5: of its first line, its set as it is printed, and the lines after
-    it."""
+def source(gtids, copy, columns, first=b'mrep copy 1\n'):
+    """The source of the transactions of a copy, by RFC 9562, 5.5: of its first line, its set as it is printed, the lines after it, and
+    the description of its columns."""
     lines = copy.split(b'\n', 2)[2]
-    name = uuid.NAMESPACE_OID.bytes + first + gtids.encode() + hashlib.sha1(lines).digest()
+    name = uuid.NAMESPACE_OID.bytes + first + gtids.encode() + hashlib.sha1(lines).digest() + hashlib.sha1(columns).digest()
     return str(uuid.UUID(bytes=hashlib.sha1(name).digest()[:16], version=5))
 
 

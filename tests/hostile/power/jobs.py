@@ -80,7 +80,7 @@ def loaded(copy: bytes) -> List[Content]:
     """What a load comes from and to: nothing, begun, with its rows, ended."""
     order = sorted(COPY, key=lambda number: number.to_bytes(4, 'little'))
     shown = ''.join(f'shop.items 1 {number}/4,x{COPY[number].hex()}\n' for number in order)
-    sets = [copies.loaded_set(COPIED, copy, rows_in, is_ended) for rows_in, is_ended in ((0, False), (1, False), (1, True))]
+    sets = [copies.loaded_set(COPIED, copy, COLUMNS, rows_in, is_ended) for rows_in, is_ended in ((0, False), (1, False), (1, True))]
     return [NOTHING, (sets[0], ''), (sets[1], shown), (sets[2], shown)]
 
 
